@@ -1,0 +1,3 @@
+pub mod Platforms
+pub mod Records
+pub mod Soundness

@@ -1,0 +1,4 @@
+pub mod Order
+pub mod Marks
+pub mod Next
+pub mod Divisors

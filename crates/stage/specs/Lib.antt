@@ -1,0 +1,4 @@
+pub mod Stages
+pub mod Instances
+pub mod Rows
+pub mod Periods
