@@ -23,7 +23,7 @@ unfolding metronome-record
 record-past records n low h = rw (lt-ltb n 128 low, nth-past records n h) refl
 
 pub record-at : (records : List Record) (n : ℕ) (d : Record) → n < 128 → n < length records
-  → metronome-record records n ≡ cond (in-range (getD records n d)) (Some (getD records n d)) None
+    → metronome-record records n ≡ cond (in-range (getD records n d)) (Some (getD records n d)) None
 unfolding metronome-record
 record-at records n d low h = rw (lt-ltb n 128 low, nth-getD records n d h) refl
 
@@ -34,11 +34,13 @@ found-in-range records n r e = by-number (ltb n 128) (nth records n) e
     by-test : (b : Bool) (x : Record) → in-range x ≡ b → Some r ≡ cond b (Some x) None → in-range r ≡ true
     by-test true x h e = let same : r ≡ x = cc in ap in-range same ∙ h
     by-test false x h e = cc
+
     by-record : (o : Option Record) → Some r ≡ elim o [ None ↦ None | Some x ↦ cond (in-range x) (Some x) None ] → in-range r ≡ true
     by-record None e = cc
     by-record (Some x) e = by-test (in-range x) x refl e
+
     by-number : (b : Bool) (o : Option Record)
-      → Some r ≡ cond b (elim o [ None ↦ None | Some x ↦ cond (in-range x) (Some x) None ]) None → in-range r ≡ true
+        → Some r ≡ cond b (elim o [ None ↦ None | Some x ↦ cond (in-range x) (Some x) None ]) None → in-range r ≡ true
     by-number true o e = by-record o e
     by-number false o e = cc
 

@@ -32,17 +32,17 @@ limits r h =
     let s = and-parts (response-in-range r) _ (o .1) in
     let period = and-parts (leb 100 (r .period)) _ (p .0) in
     let response = and-parts (ltb 0 (r .response)) _ (s .0) in
-    record
-      { period-low = leb-true _ _ (period .0)
-      ; period-high = leb-true _ _ (period .1)
-      ; offset-high = ltb-true _ _ (o .0)
-      ; response-low = ltb-true _ _ (response .0)
-      ; response-high = leb-true _ _ (response .1)
-      ; rank-high = leb-true _ _ (s .1)
-      }
+    record {
+      period-low = leb-true _ _ (period .0);
+      period-high = leb-true _ _ (period .1);
+      offset-high = ltb-true _ _ (o .0);
+      response-low = ltb-true _ _ (response .0);
+      response-high = leb-true _ _ (response .1);
+      rank-high = leb-true _ _ (s .1);
+    }
 
 only-mark : (r : Record) (P : ℕ × ℕ → Type 0) → P (r .offset, r .offset + r .response)
-  → (a : ℕ) → a < 1 → P (mark-of (record-stage r) a)
+    → (a : ℕ) → a < 1 → P (mark-of (record-stage r) a)
 only-mark r P h zero k = h
 only-mark r P h (suc a) k = absurd (omega arith)
 
@@ -50,17 +50,17 @@ only-mark r P h (suc a) k = absurd (omega arith)
 pub record-lawful : (r : Record) → in-range r ≡ true → Lawful (record-stage r)
 record-lawful r h =
     let l = limits r h in
-    record
-      { cycle-low = omega arith
-      ; cycle-high = omega arith
-      ; count-low = omega arith
-      ; count-high = omega arith
-      ; rank-high = omega arith
-      ; start-in-cycle = only-mark r (λ m. m .0 < r .period) (omega arith)
-      ; stop-after-start = only-mark r (λ m. m .0 < m .1) (omega arith)
-      ; start-after-stop = λ a k. absurd (omega arith)
-      ; last-stop-in-time = omega arith
-      }
+    record {
+      cycle-low = omega arith;
+      cycle-high = omega arith;
+      count-low = omega arith;
+      count-high = omega arith;
+      rank-high = omega arith;
+      start-in-cycle = only-mark r (λ m. m .0 < r .period) (omega arith);
+      stop-after-start = only-mark r (λ m. m .0 < m .1) (omega arith);
+      start-after-stop = λ a k. absurd (omega arith);
+      last-stop-in-time = omega arith;
+    }
 
 kept-in-range : (r : Record) → Cases (mapped record-stage (cond (in-range r) (Some r) None)) (Unit {0}) Lawful
 kept-in-range r =
@@ -68,15 +68,15 @@ kept-in-range r =
     (record-lawful r) (λ e. tt)
 
 records-lawful : (o : Option Record)
-  → Cases (mapped record-stage (elim o [ None ↦ None | Some r ↦ cond (in-range r) (Some r) None ])) (Unit {0}) Lawful
+    → Cases (mapped record-stage (elim o [ None ↦ None | Some r ↦ cond (in-range r) (Some r) None ])) (Unit {0}) Lawful
 records-lawful None = tt
 records-lawful (Some r) = kept-in-range r
 
 pub metronome-sound : (records : List Record) (n : ℕ) → Sound n (metronome-stage records n)
 unfolding metronome-record
 metronome-sound records n =
-    record
-      { lawful = cond-both (ltb n 128) _ None (λ o. Cases (mapped record-stage o) (Unit {0}) Lawful)
-          (λ e. records-lawful (nth records n)) (λ e. tt)
-      ; absent-above = λ h. ap (mapped record-stage) (cond-false (ltb n 128) _ None (le-ltb n 128 h))
-      }
+    record {
+      lawful = cond-both (ltb n 128) _ None (λ o. Cases (mapped record-stage o) (Unit {0}) Lawful)
+          (λ e. records-lawful (nth records n)) (λ e. tt);
+      absent-above = λ h. ap (mapped record-stage) (cond-false (ltb n 128) _ None (le-ltb n 128 h));
+    }

@@ -28,7 +28,11 @@ impl<'a> Metronome<'a> {
             return None;
         }
         let record = self.records[number as usize];
-        if record.is_in_range() { Some(record) } else { None }
+        if record.is_in_range() {
+            Some(record)
+        } else {
+            None
+        }
     }
 }
 
@@ -48,6 +52,10 @@ pub impl<'a> Platform for Metronome<'a> as MetronomePlatform {
         let Some(record) = self.record(number) else {
             return None;
         };
-        if a == 0 { Some((record.offset, record.offset + record.response)) } else { None }
+        if a == 0 {
+            Some((record.offset, record.offset + record.response))
+        } else {
+            None
+        }
     }
 }

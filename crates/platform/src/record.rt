@@ -15,6 +15,7 @@ pub struct Record {
 }
 
 pub const MIN_PERIOD: u32 = 100;
+
 pub const MAX_PERIOD: u32 = 1_000_000;
 
 impl Record {

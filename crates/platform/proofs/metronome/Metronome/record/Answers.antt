@@ -9,8 +9,8 @@ use Rattle.platform.proofs.metronome.Metronome.record.Needs.{then-number-ge128
 pub returns-then-number-ge128 : need.returns-then-number-ge128
 returns-then-number-ge128 c =
     elim (c .then-number-ge128 .came) [
-      then-number-ge128·by·then-number-ge128 w ↦ sym (record-above _ _ (w .if-number-ge128 .taken))
-    | then-number-ge128·by·else-number-ge128·then-number-self w ↦ sym (record-past _ _ (w .if-number-ge128 .left) (w .if-number-self .taken))
+      | then-number-ge128·by·then-number-ge128 w ↦ sym (record-above _ _ (w .if-number-ge128 .taken))
+      | then-number-ge128·by·else-number-ge128·then-number-self w ↦ sym (record-past _ _ (w .if-number-ge128 .left) (w .if-number-self .taken))
     ]
 
 pub returns-then-is-in-range : need.returns-then-is-in-range

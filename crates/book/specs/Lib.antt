@@ -1,0 +1,4 @@
+pub mod Faults
+pub mod Tasks
+pub mod Ledgers
+pub mod Keeping

@@ -1,0 +1,82 @@
+// What a call is refused by. Each layer has an enum of its own, and an upper layer's holds the lower one's whole.
+ghost use mathlib.Core.Path.{_≡_};
+ghost use Rattle.book.specs.declared.fault.RouteFault.the-variants.{Task as task-case};
+ghost use Rattle.book.specs.Faults.{route-fault, task-fault};
+
+// Faults of a task's number and record.
+#[derive(Clone, Copy, Debug, PartialEq, Eq)]
+pub enum TaskFault {
+    // the number is above 127
+    Number,
+    // the period is outside 100 to 1,000,000
+    Period,
+    // the offset is not below the period
+    Offset,
+    // the response is 0 or above the period
+    Response,
+    // a new number, and 32 tasks are held
+    Full,
+    // the number is not held
+    NotHeld,
+    // the number is on the route
+    OnRoute,
+}
+
+impl TaskFault {
+    // The refusal's number.
+    pub fn number(self) -> u8
+        ensures { λ r. ⌜ r ≡ task-fault self .number ⌝ }
+    {
+        match self {
+            TaskFault::Number => 1,
+            TaskFault::Period => 2,
+            TaskFault::Offset => 3,
+            TaskFault::Response => 4,
+            TaskFault::Full => 5,
+            TaskFault::NotHeld => 6,
+            TaskFault::OnRoute => 7,
+        }
+    }
+}
+
+// Faults of a route.
+#[derive(Clone, Copy, Debug, PartialEq, Eq)]
+pub enum RouteFault {
+    // a fault of a task
+    Task(TaskFault),
+    // the length is outside 1 to 16
+    Length,
+    // the entry at this position is neither held nor present
+    Absent(usize),
+}
+
+impl RouteFault {
+    // The refusal's number.
+    pub fn number(self) -> u8
+        ensures { λ r. ⌜ r ≡ route-fault self .number ⌝ }
+    {
+        match self {
+            RouteFault::Task(fault) => fault.number(),
+            RouteFault::Length => 8,
+            RouteFault::Absent(_) => 9,
+        }
+    }
+
+    // Where the fault is: the first position that is neither held nor present, otherwise 0.
+    pub fn place(self) -> usize
+        ensures { λ r. ⌜ r ≡ route-fault self .place ⌝ }
+    {
+        match self {
+            RouteFault::Absent(position) => position,
+            RouteFault::Task(_) | RouteFault::Length => 0,
+        }
+    }
+}
+
+pub impl From<TaskFault> for RouteFault as RouteFaultFromTask {
+    ghost converts = { λ x y. y ≡ task-case x };
+
+    fn from(fault: TaskFault) -> RouteFault {
+        RouteFault::Task(fault)
+    }
+}

@@ -1,0 +1,11 @@
+// The latency book: a title's tasks and its route over one platform.
+pub mod book;
+pub mod fault;
+pub mod route;
+pub mod table;
+
+pub use book::Book;
+pub use book::Open;
+pub use fault::RouteFault;
+pub use fault::RouteFaultFromTask;
+pub use fault::TaskFault;
