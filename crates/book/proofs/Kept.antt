@@ -40,7 +40,7 @@ ranged-prop (Some t ∷ xs) = ×₃-prop le-prop (Bool-set _ _) (ranged-prop xs)
 pub kept : (t : Table) (r : Route) → ∥ Keeps t r ∥₁ → Keeps t r
 kept t r k =
     ∥∥₁-elim k
-    (keeps-prop (distinct-prop (t .slots)) (ranged-prop (t .slots)) le-prop
+    (keeps-prop (distinct-prop (t .slots)) (ranged-prop (t .slots))
     (Π-prop (λ k. Π-prop (λ h. Π-prop (λ l. Bool-set _ _)))))
     (λ x. x)
 
@@ -56,12 +56,11 @@ pub empty-held : (n m : ℕ) → held-under (replicate n None) m ≡ None
 empty-held zero m = refl
 empty-held (suc n) m = empty-held n m
 
-pub empty-keeps : (t : Table) (r : Route) → t .slots ≡ replicate 32 None → r .len ≡ 0 → entries-of r ≡ [] → Keeps t r
-empty-keeps t r slots len entries =
+pub empty-keeps : (t : Table) (r : Route) → t .slots ≡ replicate 32 None → entries-of r ≡ [] → Keeps t r
+empty-keeps t r slots entries =
     record {
       distinct = subst Distinct (sym slots) (empty-distinct 32);
       ranged = subst Ranged (sym slots) (empty-ranged 32);
-      short = omega arith;
       held = λ k h low. absurd (omega (arith, ap length entries));
     }
 
@@ -73,7 +72,6 @@ put-keeps t u r n x b before d range held =
     record {
       distinct = d;
       ranged = range;
-      short = before .short;
       held = λ k h low. ap isSome (held (getD (entries-of r) k 0)) ∙ still b (getD (entries-of r) k 0) (before .held k h low);
     }
   where
@@ -91,7 +89,6 @@ remove-keeps t u r n before off d range held =
     record {
       distinct = d;
       ranged = range;
-      short = before .short;
       held = λ k h low.
           ap isSome
           (held (getD (entries-of r) k 0)
@@ -120,12 +117,11 @@ record-in-range r rank e =
 
 -- a route whose entries are all held or present
 pub route-keeps : (meaning : ℕ → Option Stage) (t : Table) (old new : Route) (entries : List ℕ) → Keeps t old
-    → entries-of new ≡ entries → new .len ≤ 16 → first-absent (entry-stage meaning (stands t old)) entries ≡ None → Keeps t new
-route-keeps meaning t old new entries before same short none =
+    → entries-of new ≡ entries → first-absent (entry-stage meaning (stands t old)) entries ≡ None → Keeps t new
+route-keeps meaning t old new entries before same none =
     record {
       distinct = before .distinct;
       ranged = before .ranged;
-      short = short;
       held = subst (λ xs. (k : ℕ) → k < length xs → getD xs k 0 < 128 → isSome (held-under (t .slots) (getD xs k 0)) ≡ true) (sym same) held;
     }
   where

@@ -1,6 +1,6 @@
 -- What every book keeps, and the ledger that its contents stand for.
 -- Assumes nothing.
-use Prim.Native.Nat.{ℕ, _<_, _≤_}
+use Prim.Native.Nat.{ℕ, _<_}
 use mathlib.Core.Path.{_≡_}
 use mathlib.Core.Bool.{true}
 use mathlib.Core.List.{List}
@@ -22,7 +22,6 @@ stands table route = record { records = held-under (table .slots); route = entri
 pub record Keeps (table : Table) (route : Route) : Type 0 where
   pub distinct : Distinct (table .slots)
   pub ranged : Ranged (table .slots)
-  pub short : route .len ≤ 16
   pub held : (k : ℕ) → k < length (entries-of route) → getD (entries-of route) k 0 < 128
       → isSome (held-under (table .slots) (getD (entries-of route) k 0)) ≡ true
   deriving IsProp as keeps-prop

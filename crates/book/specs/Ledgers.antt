@@ -84,10 +84,14 @@ first-absent stage (entry ∷ entries) = cond (isSome (stage entry)) (mapped suc
 abbrev pub absent-at : ℕ → Refusal
 absent-at position = record { number = 9; place = position }
 
+-- a route has 1 to 16 entries
+abbrev pub outside-lengths : List ℕ → Bool
+outside-lengths entries = eqb (length entries) 0 || ltb 16 (length entries)
+
 -- route: sets the route to its list
 abbrev pub route-refusal : (ℕ → Option Stage) → Ledger → List ℕ → Option Refusal
 route-refusal meaning l entries =
-    refuse 8 (eqb (length entries) 0 || ltb 16 (length entries))
+    refuse 8 (outside-lengths entries)
     then mapped absent-at (first-absent (entry-stage meaning l) entries)
 
 abbrev pub routed : (ℕ → Option Stage) → Ledger → List ℕ → Ledger

@@ -6,6 +6,7 @@ use mathlib.Core.Bool.{Bool, true, false, cond, _||_}
 use mathlib.Core.List.{List, [], _∷_}
 use lib.Dec.{eqb, ltb}
 use lib.ListN.{length, getD, set}
+use Rattle.std.specs.Finite.{update}
 use Rattle.std.specs.Options.{isSome}
 use Rattle.std.specs.declared.option.Option.{Option}
 use Rattle.std.specs.declared.option.Option.the-variants.{Some, None}
@@ -67,3 +68,16 @@ pub record Ready (slots : List (Option Task)) (i n : ℕ) : Type 0 where
   pub room : has-room slots n ≡ true
   pub alone : held-under (set slots i None) n ≡ None
   pub free : (m : ℕ) → (m ≡ n → ⊥) → has-number (getD slots i None) m ≡ false
+
+-- the record is held under the number, where there was room for it, and nothing else is held otherwise than before
+pub record Put (before after : List (Option Task)) (n : ℕ) (r : Record) (done : Bool) : Type 0 where
+  pub room : done ≡ has-room before n
+  pub held : (m : ℕ) → held-under after m ≡ cond done (update eqb (held-under before) n (Some r) m) (held-under before m)
+  pub distinct : Distinct after
+  pub ranged : n < 128 → in-range r ≡ true → Ranged after
+
+-- nothing is held under the number, and nothing else is held otherwise than before
+pub record Removed (before after : List (Option Task)) (n : ℕ) : Type 0 where
+  pub held : (m : ℕ) → held-under after m ≡ update eqb (held-under before) n None m
+  pub distinct : Distinct after
+  pub ranged : Ranged after

@@ -76,7 +76,7 @@ impl RouteFault {
 pub impl From<TaskFault> for RouteFault as RouteFaultFromTask {
     ghost converts = { λ x y. y ≡ task-case x };
 
-    fn from(fault: TaskFault) -> RouteFault {
-        RouteFault::Task(fault)
+    fn from(task: TaskFault) -> RouteFault {
+        RouteFault::Task(task)
     }
 }

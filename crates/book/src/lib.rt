@@ -1,8 +1,10 @@
 // The latency book: a title's tasks and its route over one platform.
 pub mod book;
 pub mod fault;
-pub mod route;
-pub mod table;
+mod route;
+mod table;
+#[cfg(test)]
+mod tests;
 
 pub use book::Book;
 pub use book::Open;

@@ -1,14 +1,11 @@
 // The book's inner table of tasks, a plain one: what it has to keep is the book's to say.
 ghost use mathlib.Core.Path.{_≡_};
-ghost use mathlib.Core.Bool.{cond, false, true};
-ghost use Prim.Native.Nat.{ℕ, _<_};
-ghost use lib.Dec.{eqb};
+ghost use mathlib.Core.Bool.{false};
+ghost use Prim.Native.Nat.{_<_};
 ghost use lib.ListN.{replicate};
-ghost use Rattle.std.specs.Finite.{update};
-ghost use Rattle.platform.specs.Records.{in-range};
 ghost use Rattle.std.specs.Options.{Cases as BySome};
-ghost use Rattle.std.specs.declared.option.Option.the-variants.{None, Some};
-ghost use Rattle.book.specs.Tasks.{Distinct, Found, Ranged, Ready, Vacant, has-number, has-room, held-under, vacant};
+ghost use Rattle.std.specs.declared.option.Option.the-variants.{None};
+ghost use Rattle.book.specs.Tasks.{Distinct, Found, Put, Ranged, Ready, Removed, Vacant, has-number, has-room, held-under, vacant};
 use platform::Number;
 use platform::Record;
 
@@ -65,10 +62,8 @@ fn free_slot(slots: &[Option<Task>; MAX_TASKS]) -> Option<usize>
 
 // The slot for a record under the number: the one that has the number, or a free one.
 fn slot_for(slots: &[Option<Task>; MAX_TASKS], number: Number) -> Option<usize>
-    requires distinct { ⌜ Distinct (now slots) ⌝ }
-    requires ranged { ⌜ Ranged (now slots) ⌝ }
     ensures inside { λ r. ⌜ BySome r (Unit {0}) (λ i. i < 32) ⌝ }
-    ensures ready { λ r. ⌜ BySome r (has-room (now (slots .entry)) number ≡ false) (λ i. Ready (now (slots .entry)) i number) ⌝ }
+    ensures ready { λ r. ⌜ (Distinct (now (slots .entry)) → Ranged (now (slots .entry)) → BySome r (has-room (now (slots .entry)) number ≡ false) (λ i. Ready (now (slots .entry)) i number)) ⌝ }
 {
     match slot_of(slots, number) {
         Some(slot) => Some(slot),
@@ -100,12 +95,7 @@ impl Table {
 
     // Replaces the one record of a held number, or holds a new one; false where there is no room for it.
     pub fn put(&mut self, number: Number, record: Record) -> bool
-        requires distinct { ⌜ Distinct (now self .slots) ⌝ }
-        requires ranged { ⌜ Ranged (now self .slots) ⌝ }
-        ensures room { λ r. ⌜ r ≡ has-room (now (self .entry) .slots) number ⌝ }
-        ensures held { λ r. ⌜ ((m : ℕ) → held-under (now (self .exit) .slots) m ≡ cond r (update eqb (held-under (now (self .entry) .slots)) number (Some «record») m) (held-under (now (self .entry) .slots) m)) ⌝ }
-        ensures distinct { λ _. ⌜ Distinct (now (self .exit) .slots) ⌝ }
-        ensures ranged { λ _. ⌜ (number < 128 → in-range «record» ≡ true → Ranged (now (self .exit) .slots)) ⌝ }
+        ensures { λ r. ⌜ (Distinct (now (self .entry) .slots) → Ranged (now (self .entry) .slots) → Put (now (self .entry) .slots) (now (self .exit) .slots) number «record» r) ⌝ }
     {
         let Some(slot) = slot_for(&self.slots, number) else {
             return false;
@@ -116,11 +106,7 @@ impl Table {
 
     // Holds nothing under the number any more.
     pub fn remove(&mut self, number: Number)
-        requires distinct { ⌜ Distinct (now self .slots) ⌝ }
-        requires ranged { ⌜ Ranged (now self .slots) ⌝ }
-        ensures held { λ _. ⌜ ((m : ℕ) → held-under (now (self .exit) .slots) m ≡ update eqb (held-under (now (self .entry) .slots)) number None m) ⌝ }
-        ensures distinct { λ _. ⌜ Distinct (now (self .exit) .slots) ⌝ }
-        ensures ranged { λ _. ⌜ Ranged (now (self .exit) .slots) ⌝ }
+        ensures { λ _. ⌜ (Distinct (now (self .entry) .slots) → Ranged (now (self .entry) .slots) → Removed (now (self .entry) .slots) (now (self .exit) .slots) number) ⌝ }
     {
         if let Some(slot) = slot_of(&self.slots, number) {
             self.slots[slot] = None;

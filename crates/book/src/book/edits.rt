@@ -10,7 +10,6 @@ use crate::book::Book;
 use crate::book::Open;
 use crate::fault::RouteFault;
 use crate::fault::TaskFault;
-use crate::route::MAX_ROUTE;
 use crate::route::Route;
 use crate::table::Table;
 use platform::Number;
@@ -97,13 +96,13 @@ impl<P: Platform> Book<P, Open> {
         ensures after { λ r. ⌜ stands (now (self .exit) .table) (now (self .exit) .route) ≡ routed (P·Platform .meaning (now (self .entry) .platform)) (stands (now (self .entry) .table) (now (self .entry) .route)) (now (entries .entry)) ⌝ }
         ensures platform { λ r. ⌜ now (self .exit) .platform ≡ now (self .entry) .platform ⌝ }
     {
-        if entries.is_empty() || entries.len() > MAX_ROUTE {
+        let Some(route) = Route::new(entries) else {
             return Err(RouteFault::Length);
-        }
+        };
         if let Some(position) = self.first_absent(entries) {
             return Err(RouteFault::Absent(position));
         }
-        self.route = Route::new(entries);
+        self.route = route;
         Ok(())
     }
 }

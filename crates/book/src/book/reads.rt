@@ -59,8 +59,8 @@ impl<P: Platform, S> Book<P, S> {
         self.route.as_slice().len()
     }
 
-    // The entry at a position of the route.
-    fn entry_at(&self, position: usize) -> Option<Number>
+    // The entry at a position of the route; nothing past its end.
+    pub fn entry_at(&self, position: usize) -> Option<Number>
         ensures { λ r. ⌜ r ≡ nth (stands (now (self .entry) .table) (now (self .entry) .route) .route) position ⌝ }
     {
         let entries = self.route.as_slice();

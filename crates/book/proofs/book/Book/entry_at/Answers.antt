@@ -1,11 +1,7 @@
 use mathlib.Core.Path.{sym, ap, _∙_}
 use Rattle.std.specs.Runs.{nth}
 use Rattle.std.proofs.shelf.Maps.{nth-getD, nth-past}
-use Rattle.book.proofs.Kept.{kept}
 use Rattle.book.proofs.book.Book.entry_at.Needs as need
-
-pub as-slice-entries-requires : need.as-slice-entries-requires
-as-slice-entries-requires g c κs = kept _ _ (c .args .self .now .keeps) .short
 
 pub returns-then-position-entries : need.returns-then-position-entries
 returns-then-position-entries g c =

@@ -10,11 +10,7 @@ use Rattle.stage.specs.Periods.{Macro-period}
 use Rattle.book.specs.Keeping.{stands, entries-of}
 use Rattle.book.specs.Ledgers.{cycles-along, cycle-of, entry-stage}
 use Rattle.book.proofs.Cycles.{cycle-noted, cycle-missing, copied-more, period-none, with-entries}
-use Rattle.book.proofs.Kept.{kept}
 use Rattle.book.proofs.book.Book.macro_period.Needs as need
-
-pub as-slice-entries-requires : need.as-slice-entries-requires
-as-slice-entries-requires g c κs = kept _ _ (c .args .self .now .keeps) .short
 
 pub returns-in-rest : need.returns-in-rest
 returns-in-rest g c =

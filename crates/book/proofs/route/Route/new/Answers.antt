@@ -1,7 +1,8 @@
 use Prim.Native.Nat.{_<_}
-use mathlib.Core.Path.{refl, sym, ap, _∙_, _≡_}
+use mathlib.Core.Path.{sym, ap, _∙_, _≡_}
 use mathlib.Core.List.{_++_, _∷_, []}
 use native.Mathlib.Omega.{arith}
+use borrow.Author.Needs.{needs}
 use lib.ListN.{length, length-set, take, getD}
 use Rattle.std.proofs.shelf.Lists.{take-more, take-more-set, take-all}
 use Rattle.book.proofs.route.Route.new.Needs as need
@@ -20,8 +21,7 @@ loop-i-again c =
 
 pub returns : need.returns
 returns c =
-    let all : length (c .args .entries .now) ≡ c .loop-i .i = omega arith in
-    record {
-      entries = ap (λ n. take n (c .loop-i .copy)) all ∙ c .loop-i .inv .1 ∙ take-all _ _ (c .loop-i-test .left);
-      len = refl;
-    }
+    let all : length (c .args .entries .now) ≡ c .loop-i .i = omega arith in (
+      search needs,
+      ap (λ n. take n (c .loop-i .copy)) all ∙ c .loop-i .inv .1 ∙ take-all _ _ (c .loop-i-test .left),
+    )
