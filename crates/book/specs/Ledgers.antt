@@ -1,18 +1,20 @@
 -- The ledger: what a book holds, as a plain value, and what each call does to it or is refused by.
 -- Assumes nothing.
-use Prim.Native.Nat.{ℕ, zero, suc, _+_, _-_}
+use Prim.Native.Nat.{ℕ, zero, suc, _+_, _-_, _<_}
+use mathlib.Core.Logic.{_⊎_}
 use mathlib.Core.Bool.{Bool, true, false, cond, not, _&&_, _||_}
 use mathlib.Core.List.{List, [], _∷_, map}
 use mathlib.Core.Path.{_≡_}
 use lib.Dec.{eqb, leb, ltb}
 use lib.ListN.{length}
 use Rattle.std.specs.Finite.{update}
-use Rattle.std.specs.Options.{isSome, mapped}
+use Rattle.std.specs.Options.{Cases, isSome, mapped}
 use Rattle.std.specs.Runs.{nth}
 use Rattle.std.specs.declared.option.Option.{Option}
 use Rattle.std.specs.declared.option.Option.the-variants.{Some, None}
 use Rattle.stage.specs.Stages.{Stage}
 use Rattle.stage.specs.Periods.{Macro-period}
+use Rattle.path.specs.Refusals.{Has-macro-period}
 use Rattle.platform.specs.declared.record.Record.{Record}
 use Rattle.platform.specs.Records.{period-in-range, offset-in-range, response-in-range, record-stage}
 use Rattle.book.specs.Faults.{Refusal, at-0}
@@ -118,3 +120,27 @@ Routed-or-not (entry ∷ entries) without with = with
 -- the macro-period of the route, where there is one
 abbrev pub Route-period : (ℕ → Option Stage) → Ledger → Option ℕ → Type 0
 Route-period meaning l answer = Routed-or-not (l .route) (answer ≡ None) (Macro-period (cycles-along meaning l) answer)
+
+-- the stages along the route: a title number's by its record, another's by the platform
+abbrev pub present-stages : List (Option Stage) → List Stage
+present-stages [] = []
+present-stages (None ∷ stages) = present-stages stages
+present-stages (Some s ∷ stages) = s ∷ present-stages stages
+
+abbrev pub stages-along : (ℕ → Option Stage) → Ledger → List Stage
+stages-along meaning l = present-stages (map (entry-stage meaning l) (l .route))
+
+-- Where a fact holds, the call is refused by a number, and otherwise the later checks decide.
+abbrev pub Refused-where : ℕ → Type 0 → (Option Refusal → Type 0) → Option Refusal → Type 0
+Refused-where number fact later answer = (fact × (answer ≡ Some (at-0 number))) ⊎ ((¬ fact) × later answer)
+
+-- query: which refusal comes, if any, for a semantics by its number and a buffer with so much room
+abbrev pub Query-refusal : (ℕ → Option Stage) → Ledger → ℕ → ℕ → Option Refusal → Type 0
+Query-refusal meaning l semantics room answer =
+    Cases (first-absent (entry-stage meaning l) (l .route))
+    (Refused-where 10 (3 < semantics)
+    (Refused-where 11 (l .route ≡ [])
+    (Refused-where 12 (¬ Has-macro-period (stages-along meaning l))
+    (Refused-where 13 (room < length (l .route))
+    (λ none. none ≡ None)))) answer)
+    (λ position. answer ≡ Some (absent-at position))

@@ -2,3 +2,4 @@ pub mod Faults
 pub mod Tasks
 pub mod Ledgers
 pub mod Keeping
+pub mod Queries

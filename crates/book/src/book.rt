@@ -18,4 +18,6 @@ pub struct Book<P, S> {
 }
 
 mod edits;
+mod query;
 mod reads;
+mod rows;

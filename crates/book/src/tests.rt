@@ -40,6 +40,31 @@ fn route(book: &mut Book<Metronome<'_>, Open>, entries: &[Number]) -> (u8, usize
     }
 }
 
+// The number of the refusal of a query, or 0.
+fn query(book: &Book<Metronome<'_>, Open>, semantics: u8, room: usize) -> u8 {
+    let mut buffer = [0; 16];
+    let room = room.min(16);
+    match book.query(semantics, &mut buffer[0..room]) {
+        Ok(_) => 0,
+        Err(fault) => fault.number(),
+    }
+}
+
+#[test]
+fn refusals_of_a_query() -> Result<(), Fail> {
+    let mut book = Book::new(Metronome::new(&[]));
+    check_eq(query(&book, 4, 0), 10)?;
+    check_eq(query(&book, 255, 16), 10)?;
+    check_eq(query(&book, 0, 16), 11)?;
+    check_eq(enter(&mut book, 1, record(1_000_000, 0, 1)), 0)?;
+    check_eq(enter(&mut book, 2, record(999_999, 0, 1)), 0)?;
+    check_eq(route(&mut book, &[1, 2]), (0, 0))?;
+    check_eq(query(&book, 3, 0), 12)?;
+    check_eq(route(&mut book, &[2, 2]), (0, 0))?;
+    check_eq(query(&book, 3, 1), 13)?;
+    check_eq(query(&book, 3, 2), 0)
+}
+
 #[test]
 fn limits_of_a_record() -> Result<(), Fail> {
     let mut book = Book::new(Metronome::new(&[]));

@@ -1,9 +1,10 @@
 // Plays a script's lines on a book, and prints what each did.
 use crate::script::Line;
+use book::AnalysisFault;
+use book::Answer;
 use book::Book;
 use book::Open;
 use book::RouteFault;
-use book::RouteFaultFromTask;
 use book::TaskFault;
 use platform::Number;
 use platform::Platform;
@@ -33,10 +34,20 @@ fn reason(fault: RouteFault) -> &'static str {
     }
 }
 
-fn show_fault(rt: &impl Print, line: usize, fault: RouteFault) -> io::Result<()> {
+fn analysis_reason(fault: AnalysisFault) -> &'static str {
+    match fault {
+        AnalysisFault::Route(fault) => reason(fault),
+        AnalysisFault::Semantics => "the semantics is above 3",
+        AnalysisFault::NoRoute => "there is no route",
+        AnalysisFault::MacroPeriod => "the macro-period is above 100000000",
+        AnalysisFault::Buffer => "the buffer is shorter than the route",
+    }
+}
+
+fn show_fault(rt: &impl Print, line: usize, fault: AnalysisFault) -> io::Result<()> {
     let number = fault.number();
     let place = fault.place();
-    let reason = reason(fault);
+    let reason = analysis_reason(fault);
     println!(rt, "line {line}: refused {number} place {place}: {reason}")
 }
 
@@ -115,18 +126,41 @@ fn show_route<P: Platform>(rt: &impl Print, book: &Book<P, Open>) -> io::Result<
     }
 }
 
-fn enter<P: Platform>(
-    book: &mut Book<P, Open>,
-    number: Number,
-    record: Record,
-) -> Result<(), RouteFault> {
-    book.enter(number, record)?;
-    Ok(())
+fn semantics_name(semantics: u8) -> &'static str {
+    match semantics {
+        0 => "LL",
+        1 => "LF",
+        2 => "FL",
+        _ => "FF",
+    }
 }
 
-fn retire<P: Platform>(book: &mut Book<P, Open>, number: Number) -> Result<(), RouteFault> {
-    book.retire(number)?;
-    Ok(())
+// A figure as a sheet has it: semantics, milliseconds cut to tenths, witness and predecessor.
+fn show_answer(rt: &impl Print, semantics: u8, answer: Answer, witness: &[u64]) -> io::Result<()> {
+    let name = semantics_name(semantics);
+    let whole = answer.delay / 1000;
+    let tenth = answer.delay / 100 % 10;
+    print!(rt, "{name} {whole}.{tenth}")?;
+    for instance in witness.iter().take(answer.length) {
+        print!(rt, " {instance}")?;
+    }
+    match answer.predecessor {
+        Some(predecessor) => println!(rt, " after {predecessor}"),
+        None => println!(rt, ""),
+    }
+}
+
+fn query<P: Platform>(
+    rt: &impl Print,
+    book: &Book<P, Open>,
+    at: usize,
+    semantics: u8,
+) -> io::Result<()> {
+    let mut witness = [0; 16];
+    match book.query(semantics, &mut witness) {
+        Ok(answer) => show_answer(rt, semantics, answer, &witness),
+        Err(fault) => show_fault(rt, at, fault),
+    }
 }
 
 fn play_line<P: Platform>(
@@ -142,18 +176,19 @@ fn play_line<P: Platform>(
             "line {at}: not read, expected stages only before the first call"
         ),
         Line::Unread(expected) => println!(rt, "line {at}: not read, expected {expected}"),
-        Line::Enter(number, record) => match enter(book, *number, *record) {
+        Line::Enter(number, record) => match book.enter(*number, *record) {
             Ok(()) => println!(rt, "entered {number}"),
-            Err(fault) => show_fault(rt, at, fault),
+            Err(fault) => show_fault(rt, at, AnalysisFault::Route(RouteFault::Task(fault))),
         },
-        Line::Retire(number) => match retire(book, *number) {
+        Line::Retire(number) => match book.retire(*number) {
             Ok(()) => println!(rt, "retired {number}"),
-            Err(fault) => show_fault(rt, at, fault),
+            Err(fault) => show_fault(rt, at, AnalysisFault::Route(RouteFault::Task(fault))),
         },
         Line::Route(entries) => match book.route(entries.as_slice()) {
             Ok(()) => show_route(rt, book),
-            Err(fault) => show_fault(rt, at, fault),
+            Err(fault) => show_fault(rt, at, AnalysisFault::Route(fault)),
         },
+        Line::Query(semantics) => query(rt, book, at, *semantics),
     }
 }
 

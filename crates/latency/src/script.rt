@@ -14,6 +14,8 @@ pub enum Line {
     Enter(Number, Record),
     Retire(Number),
     Route(Vec<Number>),
+    // a semantics by its number
+    Query(u8),
     // the line cannot be read; this was expected
     Unread(&'static str),
 }
@@ -22,7 +24,7 @@ impl Line {
     // Whether the line is a call on the book.
     pub fn is_call(&self) -> bool {
         match self {
-            Line::Enter(_, _) | Line::Retire(_) | Line::Route(_) => true,
+            Line::Enter(_, _) | Line::Retire(_) | Line::Route(_) | Line::Query(_) => true,
             Line::Nothing | Line::Stage(_) | Line::Unread(_) => false,
         }
     }
@@ -35,7 +37,8 @@ fn expected(verb: &str) -> &'static str {
         "enter" => "enter NUMBER PERIOD OFFSET RESPONSE RANK",
         "retire" => "retire NUMBER",
         "route" => "route ENTRY ENTRY ..",
-        _ => "stage, enter, retire or route",
+        "query" => "query LL, LF, FL or FF, or its number",
+        _ => "stage, enter, retire, route or query",
     }
 }
 
@@ -113,6 +116,37 @@ fn call_line(heap: Global, verb: &str, numbers: &[u32]) -> Result<Option<Line>, 
     }
 }
 
+// The number of a semantics, given by its name or as a number.
+fn semantics(word: &str) -> Option<u8> {
+    match word {
+        "LL" => Some(0),
+        "LF" => Some(1),
+        "FL" => Some(2),
+        "FF" => Some(3),
+        _ => word.parse::<u8>().ok(),
+    }
+}
+
+fn query_line(text: &str) -> Option<Line> {
+    let mut words = text.split_whitespace().skip(1);
+    let number = semantics(words.next()?)?;
+    if words.next().is_some() {
+        return None;
+    }
+    Some(Line::Query(number))
+}
+
+// A line that begins with a word, where it can be read.
+fn verb_line(heap: Global, verb: &str, text: &str) -> Result<Option<Line>, AllocError> {
+    if verb == "query" {
+        return Ok(query_line(text));
+    }
+    match numbers(heap, text)? {
+        Some(numbers) => call_line(heap, verb, numbers.as_slice()),
+        None => Ok(None),
+    }
+}
+
 // One line of the script.
 fn read_line(heap: Global, text: &str) -> Result<Line, AllocError> {
     let text = match text.split_once('#') {
@@ -122,10 +156,7 @@ fn read_line(heap: Global, text: &str) -> Result<Line, AllocError> {
     let Some(verb) = text.split_whitespace().next() else {
         return Ok(Line::Nothing);
     };
-    let Some(numbers) = numbers(heap, text)? else {
-        return Ok(Line::Unread(expected(verb)));
-    };
-    match call_line(heap, verb, numbers.as_slice())? {
+    match verb_line(heap, verb, text)? {
         Some(line) => Ok(line),
         None => Ok(Line::Unread(expected(verb))),
     }

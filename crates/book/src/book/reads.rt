@@ -1,5 +1,6 @@
 // What stands along a book's route.
 ghost use mathlib.Core.Path.{_≡_};
+ghost use Prim.Native.Nat.{_≤_};
 ghost use lib.ListN.{length};
 ghost use Rattle.std.specs.Runs.{nth};
 ghost use Rattle.platform.specs.Platforms.{described, marked};
@@ -38,7 +39,7 @@ impl<P: Platform, S> Book<P, S> {
     }
 
     // Start and stop of mark `a` of a route entry's stage; nothing where there is none.
-    fn mark_of_entry(&self, entry: Number, a: u8) -> Option<(u32, u32)>
+    pub(crate) fn mark_of_entry(&self, entry: Number, a: u8) -> Option<(u32, u32)>
         ensures { λ r. ⌜ r ≡ marked (entry-stage (P·Platform .meaning (now (self .entry) .platform)) (stands (now (self .entry) .table) (now (self .entry) .route)) entry) a ⌝ }
     {
         if entry >= FIRST_PLATFORM_ENTRY {
@@ -54,7 +55,8 @@ impl<P: Platform, S> Book<P, S> {
 
     // How many entries the route has; 0 where there is no route.
     pub fn route_len(&self) -> usize
-        ensures { λ r. ⌜ r ≡ length (stands (now (self .entry) .table) (now (self .entry) .route) .route) ⌝ }
+        ensures value { λ r. ⌜ r ≡ length (stands (now (self .entry) .table) (now (self .entry) .route) .route) ⌝ }
+        ensures short { λ r. ⌜ r ≤ 16 ⌝ }
     {
         self.route.as_slice().len()
     }

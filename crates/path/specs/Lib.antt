@@ -1,0 +1,10 @@
+pub mod Numbering
+pub mod Given
+pub mod Forward
+pub mod Timed
+pub mod Figures
+pub mod Periods
+pub mod Steps
+pub mod Refusals
+pub mod Samples
+pub mod Laws
