@@ -41,9 +41,12 @@ fn time_both(rt: &LibcRuntime, rows: &[LawfulRow], count: u64) -> Result<(), Any
         Err(_) => 0,
     };
     let stages = rows.len();
+    let ratio = walk.as_micros().saturating_mul(100) / search.as_micros().max(1);
+    let whole = ratio / 100;
+    let rest = ratio % 100;
     println!(
         rt,
-        "{stages} stages: search {search:?} for {searched}, walk {walk:?} for {walked}"
+        "{stages} stages: search {search:?} for {searched}, walk {walk:?} for {walked}; walk / search {whole}.{rest:02}"
     )?;
     Ok(())
 }

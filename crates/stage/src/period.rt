@@ -21,7 +21,7 @@ fn gcd(mut a: u32, mut b: u32) -> u32
 fn lcm(a: u32, b: u32) -> Option<u32>
     ensures { λ r. ⌜ Macro-period (a ∷ b ∷ []) r ⌝ }
 {
-    if a == 0 || b == 0 {
+    if a < 1 || b < 1 {
         return None;
     }
     let product = (a / gcd(a, b)) as u64 * b as u64;

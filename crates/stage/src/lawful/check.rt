@@ -25,10 +25,10 @@ impl Row {
         ensures complete { λ r. ⌜ (Lawful (stage-of (now (self .entry))) → T r) ⌝ }
     {
         let count = self.count as usize;
-        if self.cycle == 0 || self.cycle > MAX_CYCLE {
+        if self.cycle < 1 || self.cycle > MAX_CYCLE {
             return false;
         }
-        if count == 0 || count > MAX_MARKS {
+        if count < 1 || count > MAX_MARKS {
             return false;
         }
         let mut floor = 0;

@@ -7,12 +7,12 @@ use Rattle.stage.specs.Periods.{Divides}
 use Rattle.stage.proofs.Divisors.{pair-first, pair-second, pair-least, zero-divides}
 use Rattle.stage.proofs.period.lcm.Needs as need
 
-pub returns-then-a-eq0 : need.returns-then-a-eq0
-returns-then-a-eq0 c = λ m common.
+pub returns-then-a-lt1 : need.returns-then-a-lt1
+returns-then-a-lt1 c = λ m common.
     ⊎-elim
-    (λ e. absurd (zero-divides m (common .positive) (subst (λ n. Divides n m) e (pair-first _ _ m common))))
-    (λ e. absurd (zero-divides m (common .positive) (subst (λ n. Divides n m) (e .1) (pair-second _ _ m common))))
-    (c .then-a-eq0 .either)
+    (λ e. absurd (zero-divides m (common .positive) (subst (λ n. Divides n m) (omega arith) (pair-first (c .args .a) (c .args .b) m common))))
+    (λ e. absurd (zero-divides m (common .positive) (subst (λ n. Divides n m) (omega (arith, e .1)) (pair-second (c .args .a) (c .args .b) m common))))
+    (c .then-a-lt1 .either)
 
 pub div-product : need.div-product
 div-product c =

@@ -8,8 +8,8 @@ use Rattle.stage.specs.Rows.{Lawful-mark}
 use Rattle.stage.proofs.Marks.{Kept, floor-at, count-is, to-lawful, from-lawful, last-in-time}
 use Rattle.stage.proofs.row.Row.is_lawful.Needs as need
 
-pub returns-then-count-eq0 : need.returns-then-count-eq0
-returns-then-count-eq0 c =
+pub returns-then-count-lt1 : need.returns-then-count-lt1
+returns-then-count-lt1 c =
     record { sound = λ t. absurd t; complete = λ l. omega (arith, count-is (c .args .self .now), l .count-low, l .count-high) }
 
 pub returns-then-not-is-lawful-mark : need.returns-then-not-is-lawful-mark
