@@ -3,3 +3,4 @@ pub mod Tasks
 pub mod Ledgers
 pub mod Keeping
 pub mod Queries
+pub mod Books

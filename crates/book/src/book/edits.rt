@@ -4,7 +4,7 @@ ghost use mathlib.Core.List.{[]};
 ghost use Prim.Native.Nat.{ℕ};
 ghost use Rattle.std.specs.declared.option.Option.the-variants.{None};
 ghost use Rattle.book.specs.Faults.{refused-by, route-fault, task-fault};
-ghost use Rattle.book.specs.Keeping.{stands};
+ghost use Rattle.book.specs.Books.{ledger-of};
 ghost use Rattle.book.specs.Ledgers.{enter-refusal, entered, number-refusal, record-refusal, retire-refusal, retired, route-refusal, routed};
 use crate::book::Book;
 use crate::book::Open;
@@ -48,8 +48,8 @@ impl<P: Platform> Book<P, Open> {
     // An empty book over a platform.
     pub fn new(platform: P) -> Book<P, Open>
         ensures platform { λ r. ⌜ r .platform ≡ platform ⌝ }
-        ensures records { λ r. ⌜ ((n : ℕ) → stands (r .table) (r .route) .records n ≡ None) ⌝ }
-        ensures route { λ r. ⌜ stands (r .table) (r .route) .route ≡ [] ⌝ }
+        ensures records { λ r. ⌜ ((n : ℕ) → ledger-of r .records n ≡ None) ⌝ }
+        ensures route { λ r. ⌜ ledger-of r .route ≡ [] ⌝ }
     {
         Book {
             platform,
@@ -61,8 +61,8 @@ impl<P: Platform> Book<P, Open> {
 
     // Holds the record under the number; on a held number it replaces that one record.
     pub fn enter(&mut self, number: Number, record: Record) -> Result<(), TaskFault>
-        ensures refused { λ r. ⌜ refused-by task-fault r ≡ enter-refusal (stands (now (self .entry) .table) (now (self .entry) .route)) number «record» ⌝ }
-        ensures after { λ r. ⌜ stands (now (self .exit) .table) (now (self .exit) .route) ≡ entered (stands (now (self .entry) .table) (now (self .entry) .route)) number «record» ⌝ }
+        ensures refused { λ r. ⌜ refused-by task-fault r ≡ enter-refusal (ledger-of (now (self .entry))) number «record» ⌝ }
+        ensures after { λ r. ⌜ ledger-of (now (self .exit)) ≡ entered (ledger-of (now (self .entry))) number «record» ⌝ }
         ensures platform { λ r. ⌜ now (self .exit) .platform ≡ now (self .entry) .platform ⌝ }
     {
         check_number(number)?;
@@ -75,8 +75,8 @@ impl<P: Platform> Book<P, Open> {
 
     // Holds the number no more.
     pub fn retire(&mut self, number: Number) -> Result<(), TaskFault>
-        ensures refused { λ r. ⌜ refused-by task-fault r ≡ retire-refusal (stands (now (self .entry) .table) (now (self .entry) .route)) number ⌝ }
-        ensures after { λ r. ⌜ stands (now (self .exit) .table) (now (self .exit) .route) ≡ retired (stands (now (self .entry) .table) (now (self .entry) .route)) number ⌝ }
+        ensures refused { λ r. ⌜ refused-by task-fault r ≡ retire-refusal (ledger-of (now (self .entry))) number ⌝ }
+        ensures after { λ r. ⌜ ledger-of (now (self .exit)) ≡ retired (ledger-of (now (self .entry))) number ⌝ }
         ensures platform { λ r. ⌜ now (self .exit) .platform ≡ now (self .entry) .platform ⌝ }
     {
         check_number(number)?;
@@ -92,8 +92,8 @@ impl<P: Platform> Book<P, Open> {
 
     // Replaces the route.
     pub fn route(&mut self, entries: &[Number]) -> Result<(), RouteFault>
-        ensures refused { λ r. ⌜ refused-by route-fault r ≡ route-refusal (P·Platform .meaning (now (self .entry) .platform)) (stands (now (self .entry) .table) (now (self .entry) .route)) (now (entries .entry)) ⌝ }
-        ensures after { λ r. ⌜ stands (now (self .exit) .table) (now (self .exit) .route) ≡ routed (P·Platform .meaning (now (self .entry) .platform)) (stands (now (self .entry) .table) (now (self .entry) .route)) (now (entries .entry)) ⌝ }
+        ensures refused { λ r. ⌜ refused-by route-fault r ≡ route-refusal (P·Platform .meaning (now (self .entry) .platform)) (ledger-of (now (self .entry))) (now (entries .entry)) ⌝ }
+        ensures after { λ r. ⌜ ledger-of (now (self .exit)) ≡ routed (P·Platform .meaning (now (self .entry) .platform)) (ledger-of (now (self .entry))) (now (entries .entry)) ⌝ }
         ensures platform { λ r. ⌜ now (self .exit) .platform ≡ now (self .entry) .platform ⌝ }
     {
         let Some(route) = Route::new(entries) else {

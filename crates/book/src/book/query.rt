@@ -8,7 +8,7 @@ ghost use Rattle.path.specs.Figures.{Figure};
 ghost use Rattle.path.specs.Given.{stages-of};
 ghost use Rattle.path.specs.Refusals.{Accepted, Refused};
 ghost use Rattle.book.specs.Faults.{analysis-fault, refused-by, route-fault};
-ghost use Rattle.book.specs.Keeping.{stands};
+ghost use Rattle.book.specs.Books.{ledger-of};
 ghost use Rattle.book.specs.Ledgers.{Query-refusal, absent-at, entry-stage, first-absent};
 ghost use Rattle.book.specs.Queries.{Query-answer};
 use crate::answer::Answer;
@@ -43,7 +43,7 @@ fn search(
 impl<P: Platform, S> Book<P, S> {
     // Looks at the route's entries again.
     fn check_route(&self) -> Result<(), RouteFault>
-        ensures { λ r. ⌜ refused-by route-fault r ≡ mapped absent-at (first-absent (entry-stage (P·Platform .meaning (now (self .entry) .platform)) (stands (now (self .entry) .table) (now (self .entry) .route))) (stands (now (self .entry) .table) (now (self .entry) .route) .route)) ⌝ }
+        ensures { λ r. ⌜ refused-by route-fault r ≡ mapped absent-at (first-absent (entry-stage (P·Platform .meaning (now (self .entry) .platform)) (ledger-of (now (self .entry)))) (ledger-of (now (self .entry)) .route)) ⌝ }
     {
         match self.first_absent(self.route.as_slice()) {
             Some(position) => Err(RouteFault::Absent(position)),
@@ -54,9 +54,9 @@ impl<P: Platform, S> Book<P, S> {
     // The largest delay along the route under a semantics, by its number. The witness, a path that takes so long,
     // fills the front of the buffer; the rest keeps its content, and so does all of it where the query is refused.
     pub fn query(&self, semantics: u8, buffer: &mut [u64]) -> Result<Answer, AnalysisFault>
-        ensures refused { λ r. ⌜ Query-refusal (P·Platform .meaning (now (self .entry) .platform)) (stands (now (self .entry) .table) (now (self .entry) .route)) semantics (long (now (buffer .entry))) (refused-by analysis-fault r) ⌝ }
-        ensures answered { λ r. ⌜ ByOk r (λ a. Query-answer (P·Platform .meaning (now (self .entry) .platform)) (stands (now (self .entry) .table) (now (self .entry) .route)) semantics a (take (long (stands (now (self .entry) .table) (now (self .entry) .route) .route)) (now (buffer .exit)))) (λ _. now (buffer .exit) ≡ now (buffer .entry)) ⌝ }
-        ensures rest { λ r. ⌜ drop (long (stands (now (self .entry) .table) (now (self .entry) .route) .route)) (now (buffer .exit)) ≡ drop (long (stands (now (self .entry) .table) (now (self .entry) .route) .route)) (now (buffer .entry)) ⌝ }
+        ensures refused { λ r. ⌜ Query-refusal (P·Platform .meaning (now (self .entry) .platform)) (ledger-of (now (self .entry))) semantics (long (now (buffer .entry))) (refused-by analysis-fault r) ⌝ }
+        ensures answered { λ r. ⌜ ByOk r (λ a. Query-answer (P·Platform .meaning (now (self .entry) .platform)) (ledger-of (now (self .entry))) semantics a (take (long (ledger-of (now (self .entry)) .route)) (now (buffer .exit)))) (λ _. now (buffer .exit) ≡ now (buffer .entry)) ⌝ }
+        ensures rest { λ r. ⌜ drop (long (ledger-of (now (self .entry)) .route)) (now (buffer .exit)) ≡ drop (long (ledger-of (now (self .entry)) .route)) (now (buffer .entry)) ⌝ }
     {
         self.check_route()?;
         let Some(kind) = Semantics::from_number(semantics) else {

@@ -7,7 +7,7 @@ ghost use Rattle.std.specs.Options.{Cases as BySome};
 ghost use Rattle.std.specs.declared.option.Option.the-variants.{None, Some};
 ghost use Rattle.stage.specs.Rows.{stage-of};
 ghost use Rattle.path.specs.Given.{stages-of};
-ghost use Rattle.book.specs.Keeping.{stands};
+ghost use Rattle.book.specs.Books.{ledger-of};
 ghost use Rattle.book.specs.Ledgers.{entry-stage, first-absent, stages-along};
 use crate::book::Book;
 use crate::route::MAX_ROUTE;
@@ -20,7 +20,7 @@ use stage::Row;
 impl<P: Platform, S> Book<P, S> {
     // The row of the stage that a route number names; nothing where it is neither held nor present.
     pub(crate) fn entry_row(&self, number: Number) -> Option<LawfulRow>
-        ensures { λ r. ⌜ BySome r (entry-stage (P·Platform .meaning (now (self .entry) .platform)) (stands (now (self .entry) .table) (now (self .entry) .route)) number ≡ None) (λ l. entry-stage (P·Platform .meaning (now (self .entry) .platform)) (stands (now (self .entry) .table) (now (self .entry) .route)) number ≡ Some (stage-of (l .row))) ⌝ }
+        ensures { λ r. ⌜ BySome r (entry-stage (P·Platform .meaning (now (self .entry) .platform)) (ledger-of (now (self .entry))) number ≡ None) (λ l. entry-stage (P·Platform .meaning (now (self .entry) .platform)) (ledger-of (now (self .entry))) number ≡ Some (stage-of (l .row))) ⌝ }
     {
         let (cycle, count, rank) = self.describe_entry(number)?;
         let mut starts = [0; MAX_MARKS];
@@ -43,8 +43,8 @@ impl<P: Platform, S> Book<P, S> {
     // entry is neither held nor present.
     pub(crate) fn route_rows(&self) -> Option<[LawfulRow; MAX_ROUTE]>
         ensures full { λ r. ⌜ BySome r (Unit {0}) (λ rows. length rows ≡ 16) ⌝ }
-        ensures routed { λ r. ⌜ BySome r (Unit {0}) (λ _. 0 < length (stands (now (self .entry) .table) (now (self .entry) .route) .route)) ⌝ }
-        ensures rows { λ r. ⌜ BySome r (first-absent (entry-stage (P·Platform .meaning (now (self .entry) .platform)) (stands (now (self .entry) .table) (now (self .entry) .route))) (stands (now (self .entry) .table) (now (self .entry) .route) .route) ≡ None → stands (now (self .entry) .table) (now (self .entry) .route) .route ≡ []) (λ rows. stages-of (take (length (stands (now (self .entry) .table) (now (self .entry) .route) .route)) rows) ≡ stages-along (P·Platform .meaning (now (self .entry) .platform)) (stands (now (self .entry) .table) (now (self .entry) .route))) ⌝ }
+        ensures routed { λ r. ⌜ BySome r (Unit {0}) (λ _. 0 < length (ledger-of (now (self .entry)) .route)) ⌝ }
+        ensures rows { λ r. ⌜ BySome r (first-absent (entry-stage (P·Platform .meaning (now (self .entry) .platform)) (ledger-of (now (self .entry)))) (ledger-of (now (self .entry)) .route) ≡ None → ledger-of (now (self .entry)) .route ≡ []) (λ rows. stages-of (take (length (ledger-of (now (self .entry)) .route)) rows) ≡ stages-along (P·Platform .meaning (now (self .entry) .platform)) (ledger-of (now (self .entry)))) ⌝ }
     {
         let first = self.entry_row(self.entry_at(0)?)?;
         let mut rows = [first; MAX_ROUTE];
