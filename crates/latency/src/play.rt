@@ -171,10 +171,12 @@ fn play_line<P: Platform>(
 ) -> io::Result<()> {
     match line {
         Line::Nothing => Ok(()),
-        Line::Stage(_) => println!(
-            rt,
-            "line {at}: not read, expected stages only before the first call"
-        ),
+        Line::Stage(_) | Line::Phase(_) | Line::Thin(_, _) => {
+            println!(
+                rt,
+                "line {at}: not read, expected the platform only before the first call"
+            )
+        }
         Line::Unread(expected) => println!(rt, "line {at}: not read, expected {expected}"),
         Line::Enter(number, record) => match book.enter(*number, *record) {
             Ok(()) => println!(rt, "entered {number}"),
@@ -192,6 +194,18 @@ fn play_line<P: Platform>(
     }
 }
 
+// A layer on the platform's stages.
+fn show_layer(rt: &impl Print, line: &Line) -> io::Result<()> {
+    match line {
+        Line::Phase(shift) => println!(rt, "phase {shift}"),
+        Line::Thin(every, from) if *every < 1 || *every > 16 || *from >= *every => {
+            println!(rt, "thin {every} {from}: no stages")
+        }
+        Line::Thin(every, from) => println!(rt, "thin {every} {from}"),
+        _ => Ok(()),
+    }
+}
+
 // Plays the lines in order; a refused or unread line changes nothing, and the rest goes on.
 pub fn play<P: Platform>(
     rt: &impl Print,
@@ -206,6 +220,8 @@ pub fn play<P: Platform>(
         {
             show_record(rt, stages, *record)?;
             stages = stages.saturating_add(1);
+        } else if line.is_layer() && !called {
+            show_layer(rt, line)?;
         } else {
             called = called || line.is_call();
             play_line(rt, book, i + 1, line)?;

@@ -11,6 +11,10 @@ pub enum Line {
     Nothing,
     // the record of the platform's next stage
     Stage(Record),
+    // the shift of the phase that stands on the platform
+    Phase(u32),
+    // the thin that stands on the stages, under the phase: one instance of so many, counted from this one
+    Thin(u32, u32),
     Enter(Number, Record),
     Retire(Number),
     Route(Vec<Number>),
@@ -21,11 +25,17 @@ pub enum Line {
 }
 
 impl Line {
+    // Whether the line puts a layer on the platform.
+    pub fn is_layer(&self) -> bool {
+        matches!(self, Line::Phase(_) | Line::Thin(_, _))
+    }
+
     // Whether the line is a call on the book.
     pub fn is_call(&self) -> bool {
         match self {
             Line::Enter(_, _) | Line::Retire(_) | Line::Route(_) | Line::Query(_) => true,
-            Line::Nothing | Line::Stage(_) | Line::Unread(_) => false,
+            Line::Nothing | Line::Stage(_) | Line::Phase(_) | Line::Thin(_, _) | Line::Unread(_) =>
+                false,
         }
     }
 }
@@ -34,11 +44,13 @@ impl Line {
 fn expected(verb: &str) -> &'static str {
     match verb {
         "stage" => "stage PERIOD OFFSET RESPONSE RANK",
+        "phase" => "phase SHIFT",
+        "thin" => "thin EVERY FROM",
         "enter" => "enter NUMBER PERIOD OFFSET RESPONSE RANK",
         "retire" => "retire NUMBER",
         "route" => "route ENTRY ENTRY ..",
         "query" => "query LL, LF, FL or FF, or its number",
-        _ => "stage, enter, retire, route or query",
+        _ => "stage, phase, thin, enter, retire, route or query",
     }
 }
 
@@ -58,6 +70,20 @@ fn stage_line(numbers: &[u32]) -> Option<Line> {
         return None;
     };
     Some(Line::Stage(record(*period, *offset, *response, *rank)?))
+}
+
+fn phase_line(numbers: &[u32]) -> Option<Line> {
+    let [shift] = numbers else {
+        return None;
+    };
+    Some(Line::Phase(*shift))
+}
+
+fn thin_line(numbers: &[u32]) -> Option<Line> {
+    let [every, from] = numbers else {
+        return None;
+    };
+    Some(Line::Thin(*every, *from))
 }
 
 fn enter_line(numbers: &[u32]) -> Option<Line> {
@@ -109,6 +135,8 @@ fn numbers(heap: Global, text: &str) -> Result<Option<Vec<u32>>, AllocError> {
 fn call_line(heap: Global, verb: &str, numbers: &[u32]) -> Result<Option<Line>, AllocError> {
     match verb {
         "stage" => Ok(stage_line(numbers)),
+        "phase" => Ok(phase_line(numbers)),
+        "thin" => Ok(thin_line(numbers)),
         "enter" => Ok(enter_line(numbers)),
         "retire" => Ok(retire_line(numbers)),
         "route" => route_line(heap, numbers),
@@ -192,4 +220,36 @@ pub fn platform_records(heap: Global, script: &[Line]) -> Result<Vec<Record>, Al
         }
     }
     Ok(records)
+}
+
+// The layers that stand on the platform's stages: the last of each kind before the first call. Without one, the phase
+// shifts by nothing and the thin takes every instance.
+#[derive(Clone, Copy)]
+pub struct Layers {
+    pub shift: u32,
+    pub every: u32,
+    pub from: u32,
+}
+
+pub fn platform_layers(script: &[Line]) -> Layers {
+    let mut layers = Layers {
+        shift: 0,
+        every: 1,
+        from: 0,
+    };
+    for line in script {
+        match line {
+            Line::Phase(shift) => layers.shift = *shift,
+            Line::Thin(every, from) => {
+                layers.every = *every;
+                layers.from = *from;
+            }
+            _ => {
+                if line.is_call() {
+                    return layers;
+                }
+            }
+        }
+    }
+    layers
 }

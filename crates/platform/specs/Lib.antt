@@ -1,3 +1,9 @@
 pub mod Platforms
 pub mod Records
 pub mod Soundness
+pub mod Phases
+pub mod Thins
+pub mod LayerSoundness
+pub mod Layers
+pub mod LayerSamples
+pub mod Singles
