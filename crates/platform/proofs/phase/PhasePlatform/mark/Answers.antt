@@ -16,7 +16,7 @@ pub staying-first-requires : need.staying-first-requires
 staying-first-requires g c κs =
     let self = c .args .self .now in
     let p = shaped _ (c .args .number) _ _ _ (g .P·Platform .sound (self .below) (c .args .number)) (c .in-Some .ensures tt) in
-    record { shape = p; within = mod-lt (self .shift) (omega (arith, p .lawful .cycle-low, p .cycle-is)) }
+    record { shape = p; within = mod-lt _ (omega (arith, p .lawful .cycle-low, p .cycle-is)) }
 
 pub instance-requires : need.instance-requires
 instance-requires g c κs =
