@@ -10,8 +10,6 @@ mod tests;
 pub mod thin;
 
 pub use laws::layer_examples_hold;
-pub use laws::phase_moves_starts;
-pub use laws::thin_picks_instances;
 pub use metronome::Metronome;
 pub use metronome::MetronomePlatform;
 pub use phase::Phase;

@@ -2,7 +2,7 @@
 ghost use Prim.Native.Nat.{_-_, _<_};
 ghost use mathlib.Core.Path.{_≡_};
 ghost use Rattle.platform.specs.Layers.{Shaped, marks-before};
-ghost use Rattle.platform.specs.Phases.{phased};
+ghost use Rattle.platform.specs.Phases.{Every-phase, phased};
 ghost use Rattle.platform.specs.LayerSoundness.{phased-sound};
 use crate::instance::instance;
 use crate::platform::Number;
@@ -39,9 +39,12 @@ fn staying<P: Platform>(below: &P, number: Number, cycle: u32, count: u8, moved:
 }
 
 impl<P> Phase<P> {
+    // A phase on a platform. Of every lawful stage it moves each start by its shift, round the cycle, and keeps the
+    // lengths.
     pub fn new(below: P, shift: u32) -> Phase<P>
         ensures platform { λ r. ⌜ r .below ≡ below ⌝ }
         ensures moved { λ r. ⌜ r .shift ≡ shift ⌝ }
+        ensures starts { λ _. ⌜ Every-phase ⌝ }
     {
         Phase { below, shift }
     }

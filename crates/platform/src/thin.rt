@@ -1,7 +1,7 @@
 // A layer that keeps one of every few instances.
 ghost use Prim.Native.Nat.{_≤_};
 ghost use mathlib.Core.Path.{_≡_};
-ghost use Rattle.platform.specs.Thins.{thinnable, thinned};
+ghost use Rattle.platform.specs.Thins.{Every-thinning, thinnable, thinned};
 ghost use Rattle.platform.specs.LayerSoundness.{thinned-sound};
 use crate::instance::instance;
 use crate::platform::Number;
@@ -28,9 +28,11 @@ fn is_thinnable(every: u32, from: u32, cycle: u32) -> bool
 }
 
 impl<P> Thin<P> {
+    // A thin on a platform. Instance i of a thinned stage is instance `every` × i + `from` below, for ever.
     pub fn new(below: P, every: u32, from: u32) -> Thin<P>
         ensures platform { λ r. ⌜ r .below ≡ below ⌝ }
         ensures picked { λ r. ⌜ r .every ≡ every ⌝ ∗ ⌜ r .from ≡ from ⌝ }
+        ensures instances { λ _. ⌜ Every-thinning ⌝ }
     {
         Thin { below, every, from }
     }
