@@ -128,6 +128,41 @@ fn phases_of_nothing_and_of_much() -> Result<(), Fail> {
 }
 
 #[test]
+fn every_mark_wraps() -> Result<(), Fail> {
+    expect(
+        &Phase::new(two_marks()?, 9_500),
+        10_000,
+        &[(500, 1_500), (5_500, 8_500)],
+    )
+}
+
+#[test]
+fn forty_eight_marks() -> Result<(), Fail> {
+    let mut starts = [0; MAX_MARKS];
+    let mut stops = [0; MAX_MARKS];
+    for a in 0..MAX_MARKS {
+        let start = a as u32 * 100;
+        starts[a] = start;
+        stops[a] = start + 50;
+    }
+    let row = Row {
+        cycle: 4_800,
+        count: 48,
+        rank: 7,
+        starts,
+        stops,
+    };
+    let Some(row) = LawfulRow::new(row) else {
+        return Err(Fail::new("a row is against the laws"));
+    };
+    let phase = Phase::new(Single { row }, 150);
+    check_eq(phase.describe(3), Some((4_800, 48, 7)))?;
+    check_eq(phase.mark(3, 0), Some((50, 100)))?;
+    check_eq(phase.mark(3, 47), Some((4_750, 4_800)))?;
+    check_eq(phase.mark(3, 48), None)
+}
+
+#[test]
 fn a_mark_ends_past_the_cycle() -> Result<(), Fail> {
     let below = row_of(10_000, &[(500, 3_000), (8_000, 10_400)])?;
     expect(
