@@ -6,9 +6,9 @@ use Rattle.stage.specs.Stages.{Stage}
 use Rattle.stage.specs.Periods.{Divides, CommonMultiple, IsMacroPeriod}
 use Rattle.stage.proofs.Divisors.{zero_divides}
 use Rattle.platform.specs.Platforms.{described}
-use Rattle.book.specs.Ledgers.{cycle-of, Routed-or-not}
+use Rattle.book.specs.Ledgers.{cycle_of, RoutedOrNot}
 
-pub cycle_noted : (o : Option Stage) (c k r : ℕ) → Some (c, k, r) ≡ described o → c ≡ cycle-of o
+pub cycle_noted : (o : Option Stage) (c k r : ℕ) → Some (c, k, r) ≡ described o → c ≡ cycle_of o
 cycle_noted None c k r e = let z : ◌≡◌ {A = ℕ} 0 1 = cc in absurd (omega arith)
 cycle_noted (Some s) c k r e = first (described-parts (sym e))
   where
@@ -18,7 +18,7 @@ cycle_noted (Some s) c k r e = first (described-parts (sym e))
     first : {x y : ℕ × ℕ × ℕ} → x ≡ y → y.0 ≡ x.0
     first e = sym (ap (λ p. p.0) e)
 
-pub cycle_missing : (o : Option Stage) → None ≡ described o → cycle-of o ≡ 0
+pub cycle_missing : (o : Option Stage) → None ≡ described o → cycle_of o ≡ 0
 cycle_missing None e = refl
 cycle_missing (Some s) e = let z : ◌≡◌ {A = ℕ} 0 1 = cc in absurd (omega arith)
 
@@ -34,6 +34,6 @@ period_none cycles i h e m common =
     absurd (zero_divides m common.positive (subst (λ n. Divides n m) e (common.divided i h)))
 
 -- what holds of a route with entries
-pub with_entries : (route : List ℕ) (P Q : Type 0) → 0 < length route → Q → Routed-or-not route P Q
+pub with_entries : (route : List ℕ) (P Q : Type 0) → 0 < length route → Q → RoutedOrNot route P Q
 with_entries [] P Q h q = absurd (omega arith)
 with_entries (x ∷ xs) P Q h q = q

@@ -12,7 +12,7 @@ use Rattle.path.specs.declared.semantics.Semantics.{Semantics}
 use Rattle.path.specs.declared.semantics.Semantics.TheVariants.{LL, LF, FL, FF}
 use Rattle.path.specs.declared.delay.SearchFault.{SearchFault}
 use Rattle.path.specs.declared.delay.SearchFault.TheVariants.{Length, MacroPeriod, Buffer}
-use Rattle.book.specs.Faults.{Refusal, at_0, analysis_fault, search-fault}
+use Rattle.book.specs.Faults.{Refusal, at_0, analysis_fault, search_fault}
 use Rattle.book.specs.Ledgers.{Ledger, RefusedWhere, QueryRefusal, absent_at, entry_stage, first_absent, stages_along}
 
 pub none_absent : (o : Option ℕ) → None ≡ option_map absent_at o → o ≡ None
@@ -64,7 +64,7 @@ module _ (meaning : ℕ → Option Stage) (l : Ledger) (semantics room : ℕ)
     routed e = omega (arith, ap length e)
 
     pub refused-search : (fault : SearchFault) → Refused fault (stages_along meaning l) room
-        → QueryRefusal meaning l semantics room (Some (analysis_fault (search-fault fault)))
+        → QueryRefusal meaning l semantics room (Some (analysis_fault (search_fault fault)))
     refused-search Length h = absurd (h (omega arith, omega arith))
     refused-search MacroPeriod h =
         from-10 (Some (at_0 12)) (inr (λ k. omega arith, inr (routed, inl (h.1, refl))))

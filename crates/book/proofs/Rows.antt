@@ -16,7 +16,7 @@ use Rattle.stage.specs.declared.lawful.LawfulRow.{LawfulRow}
 use Rattle.platform.specs.declared.record.Record.{Record}
 use Rattle.platform.specs.Platforms.{Sound, described, marked}
 use Rattle.platform.specs.Records.{record_stage, in_range}
-use Rattle.platform.specs.Soundness.{record-lawful}
+use Rattle.platform.specs.Soundness.{record_lawful}
 use Rattle.book.specs.declared.route.Route.{Route}
 use Rattle.book.specs.declared.table.Table.{Table}
 use Rattle.book.specs.Keeping.{Keeps, stands}
@@ -34,7 +34,7 @@ entry_lawful meaning sound t r keeps e =
   where
     held : (o : Option Record) → held_under t.slots e ≡ o → IfSome (option_map record_stage o) Lawful
     held None h = tt
-    held (Some x) h = record-lawful x (held_in_range t.slots e x keeps.ranged (sym h))
+    held (Some x) h = record_lawful x (held_in_range t.slots e x keeps.ranged (sym h))
 
 -- what `describe` answers of a stage
 pub record Describes (o : Option Stage) (c k r : ℕ) : Type 0 where

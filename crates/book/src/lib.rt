@@ -9,7 +9,4 @@ mod tests;
 
 pub use answer::Answer;
 pub use book::{Book, Open};
-pub use fault::{
-    AnalysisFault, AnalysisFaultFromRoute, AnalysisFaultFromSearch, RouteFault, RouteFaultFromTask,
-    TaskFault,
-};
+pub use fault::{AnalysisFault, RouteFault, TaskFault};

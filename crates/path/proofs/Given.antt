@@ -5,11 +5,11 @@ use Rattle.std.specs.List.{AllByRecursion as All}
 use Rattle.std.proofs.lemmas.List.{get_or-map, length-map}
 use Rattle.stage.specs.Stages.{Stage, Lawful}
 use Rattle.stage.specs.declared.lawful.LawfulRow.{LawfulRow}
-use Rattle.stage.proofs.Marks.{laws-of}
+use Rattle.stage.proofs.Marks.{laws_of}
 use Rattle.path.specs.Given.{stage_in, stages_of}
 
 pub laws_in : (x : LawfulRow) → Lawful (stage_in x)
-laws_in x = laws-of (stage_in x) x.lawful
+laws_in x = laws_of (stage_in x) x.lawful
 
 pub all_laws : (rows : List LawfulRow) → All Lawful (stages_of rows)
 all_laws [] = tt

@@ -54,9 +54,9 @@ module _ (s : Stage) (l : Lawful s) where
     unfolding instances_in
     stop-moves i = stop-turns (span / s.cycle) i ∙ ap (λ x. stop_of s i + x) span-is
 
-    pub start_in_span : (i : ℕ) → i < instances_in span s → start_of s i < span
+    pub start-in-span : (i : ℕ) → i < instances_in span s → start_of s i < span
     unfolding instances_in
-    start_in_span i h = subst (λ x. start_of s i < x) span-is (start_within (span / s.cycle) i h)
+    start-in-span i h = subst (λ x. start_of s i < x) span-is (start_within (span / s.cycle) i h)
 
     turns-some : 0 < span → 1 ≤ span / s.cycle
     turns-some p =
@@ -64,12 +64,12 @@ module _ (s : Stage) (l : Lawful s) where
         (λ h. let e : span / s.cycle * s.cycle ≡ 0 * s.cycle = ap (λ x. x * s.cycle) (omega arith) in absurd (omega (arith, span-is)))
         (cases_lt 0 (span / s.cycle))
 
-    pub cycle_in_span : 0 < span → s.cycle ≤ span
-    cycle_in_span p = omega (arith, span-is, mul-le-mul_right s.cycle (turns-some p))
+    pub cycle-in-span : 0 < span → s.cycle ≤ span
+    cycle-in-span p = omega (arith, span-is, mul-le-mul_right s.cycle (turns-some p))
 
-    pub instances_some : 0 < span → 0 < instances_in span s
+    pub instances-some : 0 < span → 0 < instances_in span s
     unfolding instances_in
-    instances_some p = omega (arith, mul-le-mul_right (count_of s) (turns-some p), l.count_low)
+    instances-some p = omega (arith, mul-le-mul_right (count_of s) (turns-some p), l.count_low)
 
 module _ (w r : Stage) (lw : Lawful w) (lr : Lawful r) where
   pub ready_soon : (i : ℕ) → ready_of w r i ≤ start_of w i + w.cycle
@@ -94,7 +94,7 @@ module _ (w r : Stage) (lw : Lawful w) (lr : Lawful r) where
     below-moves t =
         let up = (in_order r lr).starts_rise in
         below_only (start_of r) up (t + span) (count_below (start_of r) t + instances_in span r)
-        (λ i h. ⊎_elim (λ k. omega (arith, start_in_span r lr span wr i k))
+        (λ i h. ⊎_elim (λ k. omega (arith, start-in-span r lr span wr i k))
         (λ k. let e : start_of r i ≡ start_of r ((i - instances_in span r) + instances_in span r) = ap (start_of r) (omega arith) in
         omega (arith, start-moves r lr span wr (i - instances_in span r), below_there (start_of r) up t (i - instances_in span r) (omega arith)))
         (cases_lt i (instances_in span r)))
@@ -145,8 +145,8 @@ module _ (s : Stage) (ss : List Stage) (l : Lawful s) (ls : All Lawful ss) where
       let ws = c.whole.1 in
       let e = last_holds (Whole span) s ss w ws in
       record {
-        some_first = instances_some s l span w c.positive;
-        some_last = instances_some (last_or s ss) last_lawful span e c.positive;
+        some_first = instances-some s l span w c.positive;
+        some_last = instances-some (last_or s ss) last_lawful span e c.positive;
         ahead_moves = along_moves s ss l ls span w ws;
         begin_moves = start-moves s l span w;
         finish_moves = stop-moves (last_or s ss) last_lawful span e;

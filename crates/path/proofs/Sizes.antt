@@ -11,7 +11,7 @@ use Rattle.path.specs.Steps.{count_below, ready_of, ahead_of, back_of, hops_from
 use Rattle.path.proofs.Counting.{below_there}
 use Rattle.path.proofs.Ready.{hop_tied, hop_follows}
 use Rattle.path.proofs.Blocks.{first_same, next_same}
-use Rattle.path.proofs.Shift.{start_within, start-moves, cycle_in_span, ready_soon, along_later, last_holds}
+use Rattle.path.proofs.Shift.{start_within, start-moves, cycle-in-span, ready_soon, along_later, last_holds}
 use Rattle.path.proofs.Figures.{route_tied}
 
 module _ (w r : Stage) (lw : Lawful w) (lr : Lawful r) where
@@ -50,7 +50,7 @@ along_soon s (r ∷ ss) l ls span h hs i =
 
 pub all_short : (span : ℕ) → 0 < span → (ss : List Stage) → All Lawful ss → All (Whole span) ss → All (Short span) ss
 all_short span p [] ls ws = tt
-all_short span p (s ∷ ss) ls ws = (cycle_in_span s ls.0 span ws.0 p, all_short span p ss ls.1 ws.1)
+all_short span p (s ∷ ss) ls ws = (cycle-in-span s ls.0 span ws.0 p, all_short span p ss ls.1 ws.1)
 
 -- The times of block f, in spans.
 pub record InSpans (ss : List Stage) (span f : ℕ) : Type 0 where
@@ -82,7 +82,7 @@ module _ (s : Stage) (ss : List Stage) (l : Lawful s) (ls : All Lawful ss) (span
         arith,
         earlier (first_block (route_of (s ∷ ss))) 0 (first_same (route_of (s ∷ ss)) (route_tied s ss l ls)),
         start_within s l 1 0 (omega (arith, l.count_low)),
-        cycle_in_span s l span c.whole.0 c.positive,
+        cycle-in-span s l span c.whole.0 c.positive,
       )
 
   starts-le : (i j : ℕ) → i ≤ j → start_of s i ≤ start_of s j

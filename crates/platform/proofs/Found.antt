@@ -1,39 +1,42 @@
--- Which entry of a list is found under a number.
+-- Which record a metronome finds under a number.
 -- Assumes nothing.
-use Rattle.std.proofs.Common.{◌≡◌, ℕ, ◌<◌, ◌≤◌, Bool, true, false, cond, ltb, List, length, get_or, Some, None, Option, sym, refl, ap, ◌∙◌}
+use Rattle.std.proofs.Common.{◌≡◌, ℕ, ◌<◌, ◌≤◌, Bool, true, false, cond, ◌&&◌, ltb, List, length, get_or, Some, None, Option, sym, refl, ap, ◌∙◌}
 use Rattle.std.specs.List.{slice_get}
 use Rattle.std.proofs.lemmas.Option.{slice_get-get_or, slice_get_past}
 use Rattle.std.proofs.lemmas.Bool.{cond-true, cond-false, lt-ltb, le-ltb}
-use Rattle.stage.specs.Limits.{numbers}
-use Rattle.platform.specs.Lists.{where_fit, listed}
+use Rattle.platform.specs.declared.record.Record.{Record}
+use Rattle.platform.specs.Records.{in_range, metronome_record}
 
-module _ {A : Type 0} (fit : A → Bool) (xs : List A) (n : ℕ) where
-  pub listed_above : numbers ≤ n → listed fit xs n ≡ None
-  unfolding listed
-  listed_above h = cond-false (ltb n numbers) _ None (le-ltb n numbers h)
+pub record_above : (records : List Record) (n : ℕ) → 128 ≤ n → metronome_record records n ≡ None
+unfolding metronome_record
+record_above records n h = cond-false (ltb n 128) _ None (le-ltb n 128 h)
 
-  pub listed_past : n < numbers → length xs ≤ n → listed fit xs n ≡ None
-  unfolding listed
-  listed_past low h = rw (lt-ltb n numbers low, slice_get_past xs n h) refl
+pub record_past : (records : List Record) (n : ℕ) → n < 128 → length records ≤ n → metronome_record records n ≡ None
+unfolding metronome_record
+record_past records n low h = rw (lt-ltb n 128 low, slice_get_past records n h) refl
 
-  pub listed_at : (x : A) → n < numbers → n < length xs → x ≡ get_or xs n x → listed fit xs n ≡ cond (fit x) (Some x) None
-  unfolding listed
-  listed_at x low h same =
-      rw (lt-ltb n numbers low, slice_get-get_or xs n x h) (ap (λ y. cond (fit y) (Some y) None) (sym same))
+pub record_at : (records : List Record) (n : ℕ) (d : Record) → n < 128 → n < length records
+    → metronome_record records n ≡ cond (in_range (get_or records n d)) (Some (get_or records n d)) None
+unfolding metronome_record
+record_at records n d low h = rw (lt-ltb n 128 low, slice_get-get_or records n d h) refl
 
-  -- what is found is fit
-  pub listed_fit : (x : A) → Some x ≡ listed fit xs n → fit x ≡ true
-  unfolding listed
-  listed_fit x e = by_number (ltb n numbers) (slice_get xs n) e
-    where
-      by-test : (b : Bool) (y : A) → fit y ≡ b → Some x ≡ cond b (Some y) None → fit x ≡ true
-      by-test true y h e = let same : x ≡ y = cc in ap fit same ∙ h
-      by-test false y h e = cc
+pub found_in_range : (records : List Record) (n : ℕ) (r : Record) → Some r ≡ metronome_record records n → in_range r ≡ true
+unfolding metronome_record
+found_in_range records n r e = by_number (ltb n 128) (slice_get records n) e
+  where
+    by-test : (b : Bool) (x : Record) → in_range x ≡ b → Some r ≡ cond b (Some x) None → in_range r ≡ true
+    by-test true x h e = let same : r ≡ x = cc in ap in_range same ∙ h
+    by-test false x h e = cc
 
-      by-entry : (o : Option A) → Some x ≡ where_fit fit o → fit x ≡ true
-      by-entry None e = cc
-      by-entry (Some y) e = by-test (fit y) y refl e
+    by-record : (o : Option Record) → Some r ≡ elim o [ None ↦ None | Some x ↦ cond (in_range x) (Some x) None ] → in_range r ≡ true
+    by-record None e = cc
+    by-record (Some x) e = by-test (in_range x) x refl e
 
-      by_number : (b : Bool) (o : Option A) → Some x ≡ cond b (where_fit fit o) None → fit x ≡ true
-      by_number true o e = by-entry o e
-      by_number false o e = cc
+    by_number : (b : Bool) (o : Option Record)
+        → Some r ≡ cond b (elim o [ None ↦ None | Some x ↦ cond (in_range x) (Some x) None ]) None → in_range r ≡ true
+    by_number true o e = by-record o e
+    by_number false o e = cc
+
+-- where all other tests pass, the third decides
+pub and_all : (a b x d : Bool) → a ≡ true → b ≡ true → d ≡ true → x ≡ (a && (b && (x && d)))
+and_all a b x d ha hb hd = rw (ha, hb, hd) (elim x as (λ v. v ≡ (v && true)) [ true ↦ refl | false ↦ refl ])

@@ -1,6 +1,6 @@
 pub mod Found
+pub mod Layers
 pub mod Told
 pub mod Thinning
 pub mod Phasing
-pub mod Reading
-pub mod Charting
+pub mod Singles

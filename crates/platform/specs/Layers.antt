@@ -1,21 +1,28 @@
--- What layers make of the stages below them.
+-- What a layer knows of a stage below, once that stage is described.
 -- Assumes nothing.
-use Rattle.std.specs.Prelude.{ℕ, cond, Some, None, Option}
+use Rattle.std.specs.Prelude.{◌≡◌, ℕ, ◌<◌, ◌≤◌, Some, None, Option}
 use Rattle.std.specs.Option.{option_map}
-use Rattle.stage.specs.Rhythms.{Rhythm}
-use Rattle.stage.specs.Stages.{Stage}
-use Rattle.reshape.specs.Phases.{phase}
-use Rattle.reshape.specs.Thins.{thin, thinnable}
+use Rattle.stage.specs.Stages.{Stage, Lawful, count_of, mark_of, start_of, stop_of}
+use Rattle.platform.specs.Phases.{before}
 
--- a layer changes the rhythm of a stage and nothing else
-abbrev pub with_rhythm : (Rhythm → Rhythm) → Stage → Stage
-with_rhythm f s = record { rhythm = f s.rhythm; rank = s.rank }
+-- the stage is there, keeps the laws, and has this cycle and count
+pub record Shaped (o : Option Stage) (cycle count : ℕ) : Type 0 where
+  pub stage : Stage
+  pub present : o ≡ Some stage
+  pub lawful : Lawful stage
+  pub cycle_is : stage.cycle ≡ cycle
+  pub count_is : count_of stage ≡ count
 
--- a phase by d: what is absent below is absent
-abbrev pub phased : ℕ → Option Stage → Option Stage
-phased d o = option_map (with_rhythm (phase d)) o
+-- when instance i of a stage starts and stops
+abbrev pub instanced : Option Stage → ℕ → Option (ℕ × ℕ)
+instanced o i = option_map (λ s. (start_of s i, stop_of s i)) o
 
--- a thin by n and k: absent too is what cannot be thinned so
-unfoldable pub thinned : ℕ → ℕ → Option Stage → Option Stage
-thinned n k None = None
-thinned n k (Some s) = cond (thinnable n k s.rhythm.cycle) (Some (with_rhythm (thin n k) s)) None
+-- how many marks of a stage come before the first that starts at `end` or later
+abbrev pub marks_before : ℕ → Option Stage → ℕ
+marks_before end None = 0
+marks_before end (Some s) = before end s.marks
+
+-- the marks below `low` start before `end`, and mark `high` does not
+pub record Halved (s : Stage) (end low high : ℕ) : Type 0 where
+  pub early : (a : ℕ) → a < low → (mark_of s a).0 < end
+  pub late : high < count_of s → end ≤ (mark_of s high).0

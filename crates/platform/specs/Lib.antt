@@ -1,7 +1,9 @@
 pub mod Platforms
-pub mod Lists
 pub mod Records
-pub mod Charts
-pub mod Layers
 pub mod Soundness
-pub mod inner
+pub mod Phases
+pub mod Thins
+pub mod LayerSoundness
+pub mod Layers
+pub mod LayerSamples
+pub mod Singles

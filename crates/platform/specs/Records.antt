@@ -1,35 +1,36 @@
 -- A record of period, offset, response and rank, and the stage that it means.
 -- Assumes nothing.
-use Rattle.std.specs.Prelude.{ℕ, ◌+◌, Bool, ◌&&◌, List, [], ◌∷◌, Option, nat_le, nat_lt}
+use Rattle.std.specs.Prelude.{ℕ, ◌+◌, Bool, cond, ◌&&◌, List, [], ◌∷◌, Some, None, Option, nat_le, nat_lt}
 use Rattle.std.specs.Option.{option_map}
-use Rattle.stage.specs.Limits.{min_period, max_period}
+use Rattle.std.specs.List.{slice_get}
 use Rattle.stage.specs.Stages.{Stage}
-use Rattle.platform.specs.Lists.{where_fit, listed}
 use Rattle.platform.specs.declared.record.Record.{Record}
 
+-- a period is 100 to 1,000,000 microseconds
 abbrev pub period_in_range : Record → Bool
-period_in_range r = nat_le min_period r.period && nat_le r.period max_period
+period_in_range r = nat_le 100 r.period && nat_le r.period 1_000_000
 
 -- an offset is below the period
 abbrev pub offset_in_range : Record → Bool
 offset_in_range r = nat_lt r.offset r.period
 
--- a response takes some time, and at most a period
+-- a response is above 0 and not above the period
 abbrev pub response_in_range : Record → Bool
 response_in_range r = nat_lt 0 r.response && nat_le r.response r.period
 
--- a record within all limits
+-- a record within all limits; a rank is a byte
 abbrev pub in_range : Record → Bool
-in_range r = period_in_range r && (offset_in_range r && response_in_range r)
+in_range r = period_in_range r && (offset_in_range r && (response_in_range r && nat_le r.rank 255))
 
--- The stage has the period as its cycle and one mark, from the offset on and as long as the response.
+-- The stage has the period as its cycle and one mark, which starts at the offset and stops a response later.
 abbrev pub record_stage : Record → Stage
-record_stage r = record { rhythm = record { cycle = r.period; marks = (r.offset, r.offset + r.response) ∷ [] }; rank = r.rank }
+record_stage r = record { cycle = r.period; rank = r.rank; marks = (r.offset, r.offset + r.response) ∷ [] }
 
--- the stage of a record, where there is one within the limits
-abbrev pub task_stage : Option Record → Option Stage
-task_stage r = option_map record_stage (where_fit in_range r)
+-- The record of a metronome's stage p, for p from 0 to 127; a record outside the limits is absent.
+unfoldable pub metronome_record : List Record → ℕ → Option Record
+metronome_record records p =
+    cond (nat_lt p 128) (elim (slice_get records p) [ None ↦ None | Some r ↦ cond (in_range r) (Some r) None ]) None
 
--- the stages of a metronome, by its records
+-- stage p of a metronome is its record's
 abbrev pub metronome_stage : List Record → ℕ → Option Stage
-metronome_stage records p = option_map record_stage (listed in_range records p)
+metronome_stage records p = option_map record_stage (metronome_record records p)

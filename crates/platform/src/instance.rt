@@ -1,13 +1,11 @@
 // The instances of a stage, from the marks that its platform tells.
 ghost use Rattle.std.specs.Prelude.{◌≡◌, ◌*◌, ◌<◌};
-ghost use Rattle.reshape.specs.Thins.{max_every};
-ghost use Rattle.platform.specs.inner.Shapes.{Shaped, instanced};
+ghost use Rattle.platform.specs.Layers.{Shaped, instanced};
 
-use crate::platform::Platform;
-use stage::Number;
+use crate::platform::{Number, Platform};
 
-// When instance `i` starts and stops, of a stage of this cycle and count; the layers ask for the first few cycles.
-pub(crate) fn instance<P: Platform>(
+// When instance `i` starts and stops, of a stage of this cycle and count; the layers ask for the first 16 cycles.
+pub fn instance<P: Platform>(
     below: &P,
     number: Number,
     cycle: u32,
@@ -15,7 +13,7 @@ pub(crate) fn instance<P: Platform>(
     i: u32,
 ) -> Option<(u32, u32)>
     requires shape { Shaped (P.Platform.meaning below.now number) cycle count }
-    requires soon { i < max_every * count }
+    requires soon { i < 16 * count }
     ensures { result ≡ instanced (P.Platform.meaning below.now number) i }
 {
     let whole = i / count as u32 * cycle;

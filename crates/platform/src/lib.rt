@@ -1,18 +1,17 @@
 // Platforms: what a handheld's maker says of its stages, and the profiles that describe one.
-pub mod chart;
 mod instance;
-mod listed;
+pub mod laws;
 pub mod metronome;
 pub mod phase;
 pub mod platform;
 pub mod record;
-pub mod rows;
+#[cfg(test)]
+mod tests;
 pub mod thin;
 
-pub use chart::Chart;
+pub use laws::layer_examples_hold;
 pub use metronome::Metronome;
 pub use phase::Phase;
-pub use platform::Platform;
+pub use platform::{Number, Platform};
 pub use record::Record;
-pub use rows::row_of;
-pub use thin::Thin;
+pub use thin::{MAX_EVERY, Thin};

@@ -1,12 +1,10 @@
 // The metronome: a platform on a list of records.
 ghost use Rattle.std.specs.Prelude.{◌≡◌};
-ghost use Rattle.platform.specs.Records.{in_range, metronome_stage, record_stage};
-ghost use Rattle.platform.specs.Soundness.{listed_sound, record_sound};
+ghost use Rattle.platform.specs.Records.{metronome_record, metronome_stage};
+ghost use Rattle.platform.specs.Soundness.{metronome_sound};
 
-use crate::listed::entry_of;
-use crate::platform::Platform;
+use crate::platform::{Number, Platform};
 use crate::record::Record;
-use stage::Number;
 
 // Stage p is record p of the lent list; a record outside the limits is absent.
 #[derive(Clone, Copy)]
@@ -20,22 +18,37 @@ impl<'a> Metronome<'a> {
     {
         Metronome { records }
     }
+
+    // The record of a number that has a stage.
+    fn record(&self, number: Number) -> Option<Record>
+        ensures { result ≡ metronome_record self.now.records.now number }
+    {
+        if number >= 128 || number as usize >= self.records.len() {
+            return None;
+        }
+        let record = self.records[number as usize];
+        if record.is_in_range() {
+            Some(record)
+        } else {
+            None
+        }
+    }
 }
 
 impl<'a> Platform for Metronome<'a> {
     ghost meaning = { λ m n. metronome_stage m.records.now n };
 
-    ghost sound = { λ m n. listed_sound in_range record_stage record_sound m.records.now n };
+    ghost sound = { λ m n. metronome_sound m.records.now n };
 
     fn describe(&self, number: Number) -> Option<(u32, u8, u8)> {
-        let Some(record) = entry_of(self.records, number) else {
+        let Some(record) = self.record(number) else {
             return None;
         };
         Some((record.period, 1, record.rank))
     }
 
     fn mark(&self, number: Number, a: u8) -> Option<(u32, u32)> {
-        let Some(record) = entry_of(self.records, number) else {
+        let Some(record) = self.record(number) else {
             return None;
         };
         if a == 0 {

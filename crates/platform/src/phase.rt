@@ -1,13 +1,11 @@
 // A layer that moves every stage later within its cycle.
 ghost use Rattle.std.specs.Prelude.{◌≡◌, ◌-◌, ◌<◌};
-ghost use Rattle.reshape.specs.Phases.{EveryPhase};
-ghost use Rattle.platform.specs.Layers.{phased};
-ghost use Rattle.platform.specs.Soundness.{phased_sound};
-ghost use Rattle.platform.specs.inner.Shapes.{Shaped, marks_before};
+ghost use Rattle.platform.specs.Layers.{Shaped, marks_before};
+ghost use Rattle.platform.specs.Phases.{EveryPhase, phased};
+ghost use Rattle.platform.specs.LayerSoundness.{phased_sound};
 
 use crate::instance::instance;
-use crate::platform::Platform;
-use stage::Number;
+use crate::platform::{Number, Platform};
 
 // Everything happens `shift` microseconds later than below, in each cycle.
 #[derive(Clone, Copy)]
@@ -40,7 +38,7 @@ fn staying<P: Platform>(below: &P, number: Number, cycle: u32, count: u8, moved:
 }
 
 impl<P> Phase<P> {
-    // A phase on a platform. Of every lawful rhythm it moves each start by its shift, round the cycle, and keeps the
+    // A phase on a platform. Of every lawful stage it moves each start by its shift, round the cycle, and keeps the
     // lengths.
     pub fn new(below: P, shift: u32) -> Phase<P>
         ensures platform { result.below ≡ below }
@@ -54,7 +52,7 @@ impl<P> Phase<P> {
 impl<P: Platform> Platform for Phase<P> {
     ghost meaning = { λ p n. phased p.shift (P.Platform.meaning p.below n) };
 
-    ghost sound = { λ p n. phased_sound p.shift n _ (P.Platform.sound p.below n) };
+    ghost sound = { λ p n. phased_sound p.shift n (P.Platform.meaning p.below n) (P.Platform.sound p.below n) };
 
     fn describe(&self, number: Number) -> Option<(u32, u8, u8)> {
         self.below.describe(number)

@@ -1,9 +1,6 @@
 // Records of tasks.
-ghost use Rattle.std.specs.Prelude.{◌≡◌};
+ghost use Rattle.std.specs.Prelude.{◌≡◌, ◌≤◌, true};
 ghost use Rattle.platform.specs.Records.{in_range, offset_in_range, period_in_range, response_in_range};
-
-use crate::listed::Entry;
-use stage::{MAX_PERIOD, MIN_PERIOD};
 
 // What is known of a task, in microseconds: it is released every `period`, for the first time at `offset`, and
 // answers within `response`. A higher rank is more urgent.
@@ -14,6 +11,10 @@ pub struct Record {
     pub response: u32,
     pub rank: u8,
 }
+
+pub const MIN_PERIOD: u32 = 100;
+
+pub const MAX_PERIOD: u32 = 1_000_000;
 
 impl Record {
     pub fn has_period_in_range(self) -> bool
@@ -45,13 +46,5 @@ impl Record {
             return false;
         }
         self.has_response_in_range()
-    }
-}
-
-impl Entry for Record {
-    ghost fit = { in_range };
-
-    fn is_fit(&self) -> bool {
-        self.is_in_range()
     }
 }

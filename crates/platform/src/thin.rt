@@ -1,16 +1,14 @@
 // A layer that keeps one of every few instances.
-ghost use Rattle.std.specs.Prelude.{◌≡◌};
-ghost use Rattle.reshape.specs.Thins.{EveryThin};
-ghost use Rattle.platform.specs.Layers.{thinned};
-ghost use Rattle.platform.specs.Soundness.{thinned_sound};
+ghost use Rattle.std.specs.Prelude.{◌≡◌, ◌≤◌};
+ghost use Rattle.platform.specs.Thins.{EveryThinning, thinnable, thinned};
+ghost use Rattle.platform.specs.LayerSoundness.{thinned_sound};
 
 use crate::instance::instance;
-use crate::platform::Platform;
-use reshape::is_thinnable;
-use stage::Number;
+use crate::platform::{Number, Platform};
+use stage::MAX_CYCLE;
 
-// Instance i of a stage is instance `every` × i + `from` of the stage below. Where `every` or `from` is out of range
-// there are no stages.
+// Instance i of a stage is instance `every` × i + `from` of the stage below. `every` is 1 to 16 and `from` is below
+// it; otherwise there are no stages.
 #[derive(Clone, Copy)]
 pub struct Thin<P> {
     below: P,
@@ -18,13 +16,22 @@ pub struct Thin<P> {
     from: u32,
 }
 
+pub const MAX_EVERY: u32 = 16;
+
+// Whether a stage of this cycle can be thinned.
+fn is_thinnable(every: u32, from: u32, cycle: u32) -> bool
+    requires { cycle ≤ 100_000_000 }
+    ensures { result ≡ thinnable every from cycle }
+{
+    1 <= every && every <= MAX_EVERY && from < every && every * cycle <= MAX_CYCLE
+}
+
 impl<P> Thin<P> {
     // A thin on a platform. Instance i of a thinned stage is instance `every` × i + `from` below, for ever.
     pub fn new(below: P, every: u32, from: u32) -> Thin<P>
         ensures platform { result.below ≡ below }
-        ensures every { result.every ≡ every }
-        ensures from { result.from ≡ from }
-        ensures instances { EveryThin }
+        ensures picked { (result.every ≡ every) × (result.from ≡ from) }
+        ensures instances { EveryThinning }
     {
         Thin { below, every, from }
     }
@@ -33,7 +40,7 @@ impl<P> Thin<P> {
 impl<P: Platform> Platform for Thin<P> {
     ghost meaning = { λ t n. thinned t.every t.from (P.Platform.meaning t.below n) };
 
-    ghost sound = { λ t n. thinned_sound t.every t.from n _ (P.Platform.sound t.below n) };
+    ghost sound = { λ t n. thinned_sound t.every t.from n (P.Platform.meaning t.below n) (P.Platform.sound t.below n) };
 
     fn describe(&self, number: Number) -> Option<(u32, u8, u8)> {
         let Some((cycle, count, rank)) = self.below.describe(number) else {

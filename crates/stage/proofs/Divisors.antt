@@ -1,11 +1,9 @@
 -- Euclid's step, and the least common multiple from the greatest common divisor.
 -- Assumes nothing.
-use Rattle.std.proofs.Common.{◌≡◌, ℕ, zero, suc, ◌+◌, ◌-◌, ◌*◌, ◌/◌, ◌%◌, ◌<◌, ◌≤◌, List, [], ◌∷◌, length, get_or, take, sym, refl, ap, ◌∙◌, subst, ⊎_elim, mul_assoc, mul_comm, mul-pos, div-add-mod', zero-mul, arith, below_more}
+use Rattle.std.proofs.Common.{◌≡◌, ℕ, zero, suc, ◌+◌, ◌-◌, ◌*◌, ◌/◌, ◌%◌, ◌<◌, ◌≤◌, ◌⊎◌, List, [], ◌∷◌, length, get_or, take, sym, refl, ap, ◌∙◌, subst, inl, inr, ⊎_elim, mul_assoc, mul_comm, mul-pos, div-add-mod', zero-mul, arith, below_more}
 use native.Mathlib.Nat.{dvd_refl, one-dvd, dvd-zero, dvd_trans, dvd-mul_left, dvd-mul_right, dvd-mul_left_of_dvd, dvd-mul_right_of_dvd, dvd-mod_iff, dvd-add, dvd-sub, le_of_dvd, mul-dvd-mul_left, mul-dvd-mul_right, dvd_of_mul-dvd-mul_left, div-mul_cancel, mul-div_cancel', pos_of_dvd_of_pos, eq-zero_of_zero-dvd}
 use Rattle.std.proofs.lemmas.Bool.{cases_lt}
-use Rattle.stage.specs.Limits.{max_macro_period}
-use Rattle.stage.specs.Periods.{Divides, CommonMultiple, LeastCommonMultiple, HasMacroPeriod}
-use Rattle.stage.specs.inner.Divisors.{GreatestCommonDivisor}
+use Rattle.stage.specs.Periods.{Divides, CommonMultiple, LeastCommonMultiple, GreatestCommonDivisor}
 
 pub gcd_zero : (a : ℕ) → GreatestCommonDivisor a 0 a
 gcd_zero a = record { divides_first = dvd_refl a; divides_second = dvd-zero a; greatest = λ d m h k. h }
@@ -103,15 +101,13 @@ least_more cycles i m p before h =
 
 -- where the first i cycles and the next have no small common multiple, all the cycles have none
 pub none_more : (cycles : List ℕ) (i m : ℕ) → i < length cycles → LeastOfFirst cycles i m
-    → ¬ HasMacroPeriod (m ∷ get_or cycles i 0 ∷ []) → ¬ HasMacroPeriod cycles
-none_more cycles i m h before none (n, all, low) =
-    none (
-      n,
-      pair_common m (get_or cycles i 0) n all.positive
-          (before.least n all.positive (λ a k. all.divided a (omega arith)))
-          (all.divided i h),
-      low,
-    )
+    → ((n : ℕ) → CommonMultiple (m ∷ get_or cycles i 0 ∷ []) n → 100_000_000 < n)
+    → (n : ℕ) → CommonMultiple cycles n → 100_000_000 < n
+none_more cycles i m h before none n all =
+    none n
+    (pair_common m (get_or cycles i 0) n all.positive
+    (before.least n all.positive (λ a k. all.divided a (omega arith)))
+    (all.divided i h))
 
 pub least_all : (cycles : List ℕ) (i m : ℕ) → i ≡ length cycles → LeastOfFirst cycles i m → LeastCommonMultiple cycles m
 least_all cycles i m e h =

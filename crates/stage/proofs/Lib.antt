@@ -1,6 +1,4 @@
-pub mod Instances
-pub mod Spans
-pub mod Lawfulness
-pub mod Rows
+pub mod Order
+pub mod Marks
 pub mod Next
 pub mod Divisors

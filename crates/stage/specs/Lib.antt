@@ -1,11 +1,4 @@
-pub mod Limits
-pub mod Refusals
-pub mod Rhythms
-pub mod Instances
-pub mod Spans
 pub mod Stages
+pub mod Instances
 pub mod Rows
-pub mod Lawfulness
-pub mod Given
 pub mod Periods
-pub mod inner

@@ -1,35 +1,31 @@
--- The stage that a row in memory means, and the row of a stage.
+-- The stage that a row in memory means.
 -- Assumes nothing.
-use Rattle.std.specs.Prelude.{ℕ, List, map, slice_index}
+use Rattle.std.specs.Prelude.{◌≡◌, ℕ, ◌+◌, ◌*◌, ◌/◌, ◌%◌, ◌<◌, ◌≤◌, List, map, slice_index}
 use Rattle.std.specs.List.{range_with_len}
-use Rattle.stage.specs.Limits.{max_marks}
-use Rattle.stage.specs.Rhythms.{Rhythm, count_of, mark_of, pick}
-use Rattle.stage.specs.Stages.{Stage}
-use Rattle.stage.specs.declared.edge.Edge.{Edge}
-use Rattle.stage.specs.declared.edge.Edge.TheVariants.{Start, Stop}
+use Rattle.stage.specs.Stages.{Stage, count_of, mark_of}
 use Rattle.stage.specs.declared.row.Row.{Row}
 
 -- The row's first `count` starts and stops are the marks; entries from the count on are not read.
-abbrev pub rhythm_of : Row → Rhythm
-rhythm_of r =
+abbrev pub stage_of : Row → Stage
+stage_of r =
     record {
       cycle = r.cycle;
+      rank = r.rank;
       marks = map (λ (a : ℕ). (slice_index r.starts a, slice_index r.stops a)) (range_with_len 0 r.count);
     }
 
-abbrev pub stage_of : Row → Stage
-stage_of r = record { rhythm = rhythm_of r; rank = r.rank }
+-- a is the last mark that starts at or before a time within the cycle
+pub record Latest (s : Stage) (time a : ℕ) : Type 0 where
+  pub present : a < count_of s
+  pub started : (mark_of s a).0 ≤ time
+  pub last : (b : ℕ) → b < count_of s → (mark_of s b).0 ≤ time → b ≤ a
 
--- one edge of each mark of a rhythm, and zeros from the count on
-unfoldable pub column : Edge → Rhythm → List ℕ
-column e r = map (λ (a : ℕ). pick e (mark_of r a)) (range_with_len 0 max_marks)
+-- a mark keeps the laws within its cycle, where the mark before it stops at `floor`
+pub record LawfulMark (cycle floor start stop : ℕ) : Type 0 where
+  pub after_floor : floor ≤ start
+  pub in_cycle : start < cycle
+  pub stops_later : start < stop
 
-abbrev pub row_of : Stage → Row
-row_of s =
-    record {
-      cycle = s.rhythm.cycle;
-      count = count_of s.rhythm;
-      rank = s.rank;
-      starts = column Start s.rhythm;
-      stops = column Stop s.rhythm;
-    }
+-- when a row's instance i comes to what the list `times` has for its mark
+abbrev pub time_of : Row → List ℕ → ℕ → ℕ
+time_of r times i = i / r.count * r.cycle + slice_index times (i % r.count)

@@ -1,26 +1,40 @@
--- A stage: a rhythm, and a rank by which it is more or less urgent than others.
+-- A stage: something that runs again and again in a cycle, and the four laws that every stage keeps.
 -- Assumes nothing.
-use Rattle.std.specs.Prelude.{ℕ, List, [], map}
-use Rattle.stage.specs.Rhythms.{Rhythm, Lawful, start_of, stop_of}
+use Rattle.std.specs.Prelude.{ℕ, ◌+◌, ◌-◌, ◌*◌, ◌/◌, ◌%◌, ◌<◌, ◌≤◌, List, length, slice_index_or}
 
--- A higher rank is more urgent.
+-- A stage repeats its marks once in each cycle. A mark is a start and a stop, in microseconds from the cycle's
+-- beginning. A stage of higher rank is more urgent.
 pub record Stage : Type 0 where
-  pub rhythm : Rhythm
+  pub cycle : ℕ
   pub rank : ℕ
+  pub marks : List (ℕ × ℕ)
 
--- a stage starts, stops and keeps the laws as its rhythm does
-abbrev pub starts : Stage → ℕ → ℕ
-starts s i = start_of s.rhythm i
+abbrev pub count_of : Stage → ℕ
+count_of s = length s.marks
 
-abbrev pub stops : Stage → ℕ → ℕ
-stops s i = stop_of s.rhythm i
+abbrev pub mark_of : Stage → ℕ → ℕ × ℕ
+mark_of s a = slice_index_or s.marks a (0, 0)
 
-abbrev pub LawfulStage : Stage → Type 0
-LawfulStage s = Lawful s.rhythm
+-- Instance q × count + a starts q cycles after mark a does, and stops q cycles after that mark stops.
+unfoldable pub start_of : Stage → ℕ → ℕ
+start_of s i = i / count_of s * s.cycle + (mark_of s (i % count_of s)).0
 
-abbrev pub cycles_of : List Stage → List ℕ
-cycles_of ss = map (λ (s : Stage). s.rhythm.cycle) ss
+unfoldable pub stop_of : Stage → ℕ → ℕ
+stop_of s i = i / count_of s * s.cycle + (mark_of s (i % count_of s)).1
 
--- a stage that never runs, which stands for one where there is none
-abbrev pub no_stage : Stage
-no_stage = record { rhythm = record { cycle = 0; marks = [] }; rank = 0 }
+-- the ranges and the four laws
+pub record Lawful (s : Stage) : Type 0 where
+  pub cycle_low : 1 ≤ s.cycle
+  pub cycle_high : s.cycle ≤ 100_000_000
+  pub count_low : 1 ≤ count_of s
+  pub count_high : count_of s ≤ 48
+  pub rank_high : s.rank ≤ 255
+  -- a start is below the cycle
+  pub start_in_cycle : (a : ℕ) → a < count_of s → (mark_of s a).0 < s.cycle
+  -- a stop is above its own start
+  pub stop_after_start : (a : ℕ) → a < count_of s → (mark_of s a).0 < (mark_of s a).1
+  -- a start is not below the stop of the mark before it
+  pub start_after_stop : (a : ℕ) → a + 1 < count_of s → (mark_of s a).1 ≤ (mark_of s (a + 1)).0
+  -- the last stop is not above the cycle plus the first start
+  pub last_stop_in_time : (mark_of s (count_of s - 1)).1 ≤ s.cycle + (mark_of s 0).0
+  deriving IsProp as lawful-prop

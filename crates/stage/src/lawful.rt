@@ -1,15 +1,14 @@
 // Rows that keep the laws.
-ghost use Rattle.std.specs.Prelude.{◌≡◌, true};
-ghost use Rattle.stage.specs.Lawfulness.{lawful};
-ghost use Rattle.stage.specs.Rows.{rhythm_of};
+ghost use Rattle.stage.specs.Stages.{Lawful};
+ghost use Rattle.stage.specs.Rows.{stage_of};
 
 use crate::row::Row;
 
-// A row whose rhythm keeps the ranges and the four laws.
+// A row whose stage keeps the ranges and the four laws.
 #[derive(Clone, Copy)]
 pub struct LawfulRow {
     row: Row,
-    ghost keeps: { lawful (rhythm_of row) ≡ true },
+    ghost lawful: { ∥ Lawful (stage_of row) ∥₁ },
 }
 
 mod check;

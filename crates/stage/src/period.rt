@@ -1,9 +1,9 @@
 // The macro-period of several cycles.
 ghost use Rattle.std.specs.Prelude.{[], ◌∷◌};
-ghost use Rattle.stage.specs.Periods.{IsMacroPeriod};
-ghost use Rattle.stage.specs.inner.Divisors.{GreatestCommonDivisor};
+ghost use Rattle.stage.specs.Periods.{GreatestCommonDivisor, IsMacroPeriod};
 
-use crate::limits::MAX_MACRO_PERIOD;
+// The longest macro-period that is analysed, in microseconds.
+pub const MAX_MACRO_PERIOD: u32 = 100_000_000;
 
 // The greatest common divisor, by Euclid's algorithm.
 fn gcd(mut a: u32, mut b: u32) -> u32

@@ -1,5 +1,10 @@
 // A stage as plain numbers.
-use crate::limits::MAX_MARKS;
+
+// The most marks a stage has.
+pub const MAX_MARKS: usize = 48;
+
+// The longest cycle, in microseconds.
+pub const MAX_CYCLE: u32 = 100_000_000;
 
 // A stage repeats its marks once in each cycle, of `cycle` microseconds; of `starts` and `stops` the first
 // `count` entries are its marks. A higher rank is more urgent.

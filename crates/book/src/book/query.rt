@@ -11,7 +11,7 @@ ghost use Rattle.book.specs.Queries.{QueryAnswer};
 
 use crate::answer::Answer;
 use crate::book::Book;
-use crate::fault::{AnalysisFault, AnalysisFaultFromRoute, AnalysisFaultFromSearch, RouteFault};
+use crate::fault::{AnalysisFault, RouteFault};
 use crate::route::MAX_ROUTE;
 use path::{Delay, SearchFault, Semantics, largest_delay};
 use platform::Platform;

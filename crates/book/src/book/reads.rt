@@ -3,7 +3,7 @@ ghost use Rattle.std.specs.Prelude.{◌≡◌, ◌≤◌, length};
 ghost use Rattle.std.specs.List.{slice_get};
 ghost use Rattle.platform.specs.Platforms.{described, marked};
 ghost use Rattle.book.specs.Books.{ledger_of};
-ghost use Rattle.book.specs.Ledgers.{Route-period, entry_stage, first_absent, stage_at};
+ghost use Rattle.book.specs.Ledgers.{RoutePeriod, entry_stage, first_absent, stage_at};
 
 use crate::book::Book;
 use crate::route::MAX_ROUTE;
@@ -89,7 +89,7 @@ impl<P: Platform, S> Book<P, S> {
 
     // The least common multiple of the cycles along the route, where it is not above 100,000,000.
     pub fn macro_period(&self) -> Option<u32>
-        ensures { Route-period (P.Platform.meaning self.now.platform) (ledger_of self.now) result }
+        ensures { RoutePeriod (P.Platform.meaning self.now.platform) (ledger_of self.now) result }
     {
         let entries = self.route.as_slice();
         if entries.is_empty() {

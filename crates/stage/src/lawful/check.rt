@@ -1,13 +1,11 @@
 // The test of a row against the laws.
-ghost use Rattle.std.specs.Prelude.{◌≡◌, false, T, IfSome, MatchOption};
+ghost use Rattle.std.specs.Prelude.{◌≡◌, T, IfSome, MatchOption};
+ghost use Rattle.stage.specs.Stages.{Lawful};
 ghost use Rattle.stage.specs.Instances.{InOrder};
-ghost use Rattle.stage.specs.Lawfulness.{lawful};
-ghost use Rattle.stage.specs.Rows.{rhythm_of};
-ghost use Rattle.stage.specs.inner.Marks.{LawfulMark};
+ghost use Rattle.stage.specs.Rows.{stage_of, LawfulMark};
 
 use crate::lawful::LawfulRow;
-use crate::limits::{MAX_CYCLE, MAX_MARKS};
-use crate::row::Row;
+use crate::row::{MAX_CYCLE, MAX_MARKS, Row};
 
 // Whether a mark keeps the laws within its cycle; `floor` is the stop of the mark before it, or 0.
 fn is_lawful_mark(cycle: u32, floor: u32, start: u32, stop: u32) -> bool
@@ -20,11 +18,11 @@ fn is_lawful_mark(cycle: u32, floor: u32, start: u32, stop: u32) -> bool
 impl Row {
     // Whether the row keeps the ranges and the four laws.
     pub fn is_lawful(&self) -> bool
-        ensures { result ≡ lawful (rhythm_of self.now) }
+        ensures sound { T result → Lawful (stage_of self.now) }
+        ensures complete { Lawful (stage_of self.now) → T result }
     {
-        let cycle = self.cycle;
         let count = self.count as usize;
-        if cycle < 1 || cycle > MAX_CYCLE {
+        if self.cycle < 1 || self.cycle > MAX_CYCLE {
             return false;
         }
         if count < 1 || count > MAX_MARKS {
@@ -33,20 +31,20 @@ impl Row {
         let mut floor = 0;
         for a in 0..count {
             let stop = self.stops[a];
-            if !is_lawful_mark(cycle, floor, self.starts[a], stop) {
+            if !is_lawful_mark(self.cycle, floor, self.starts[a], stop) {
                 return false;
             }
             floor = stop;
         }
-        floor <= cycle + self.starts[0]
+        floor <= self.cycle + self.starts[0]
     }
 }
 
 impl LawfulRow {
     // The row, where it keeps the laws; its instances then come one after the other for ever.
     pub fn new(row: Row) -> Option<LawfulRow>
-        ensures same { MatchOption result (lawful (rhythm_of row) ≡ false) (λ l. l.row ≡ row) }
-        ensures ordered { IfSome result (λ l. InOrder (rhythm_of l.row)) }
+        ensures refused { MatchOption result (Lawful (stage_of row) → ⊥) (λ l. l.row ≡ row) }
+        ensures ordered { IfSome result (λ l. InOrder (stage_of l.row)) }
     {
         if row.is_lawful() {
             Some(LawfulRow { row })
@@ -55,28 +53,10 @@ impl LawfulRow {
         }
     }
 
-    // A copy of the row.
-    pub fn row(&self) -> Row
-        ensures { result ≡ self.now.row }
+    pub fn row(&self) -> &Row
+        ensures value { result.now ≡ self.now.row }
+        ensures lawful { Lawful (stage_of result.now) }
     {
-        self.row
-    }
-
-    pub fn cycle(&self) -> u32
-        ensures { result ≡ self.now.row.cycle }
-    {
-        self.row.cycle
-    }
-
-    pub fn count(&self) -> u8
-        ensures { result ≡ self.now.row.count }
-    {
-        self.row.count
-    }
-
-    pub fn rank(&self) -> u8
-        ensures { result ≡ self.now.row.rank }
-    {
-        self.row.rank
+        &self.row
     }
 }

@@ -1,51 +1,42 @@
 // When the instances of a stage start and stop, and which is the first from a time on.
-ghost use Rattle.std.specs.Prelude.{◌≡◌, ◌%◌, slice_index};
-ghost use Rattle.stage.specs.Rhythms.{start_of, stop_of, time_of};
-ghost use Rattle.stage.specs.Instances.{FirstFrom, Fitting, Latest};
-ghost use Rattle.stage.specs.Rows.{rhythm_of};
-ghost use Rattle.stage.specs.inner.Marks.{noted};
+ghost use Rattle.std.specs.Prelude.{◌≡◌, ℕ, ◌^◌, ◌<◌, MatchOption};
+ghost use Rattle.std.specs.Option.{SomeIff};
+ghost use Rattle.stage.specs.Stages.{mark_of, start_of, stop_of};
+ghost use Rattle.stage.specs.Instances.{FirstFrom};
+ghost use Rattle.stage.specs.Rows.{Latest, stage_of, time_of};
 
-use crate::edge::Edge;
 use crate::lawful::LawfulRow;
+use crate::row::MAX_MARKS;
 
 impl LawfulRow {
-    // An edge of the mark that instance `i` repeats.
-    fn edge_of(&self, edge: Edge, i: u64) -> u32
-        ensures { result ≡ slice_index (noted edge self.now.row) (i % self.now.row.count) }
+    // The time at which `marks`, the row's starts or its stops, has instance `i`; nothing where that passes 64 bits.
+    fn time_of(&self, marks: &[u32; MAX_MARKS], i: u64) -> Option<u64>
+        ensures { SomeIff result (time_of self.now.row marks.now i < 2 ^ 64) (time_of self.now.row marks.now i) }
     {
-        let a = (i % self.row.count as u64) as usize;
-        match edge {
-            Edge::Start => self.row.starts[a],
-            Edge::Stop => self.row.stops[a],
-        }
-    }
-
-    // When instance `i` comes to an edge, or nothing where that passes 64 bits.
-    fn time_of(&self, edge: Edge, i: u64) -> Option<u64>
-        ensures { Fitting result (time_of edge (rhythm_of self.now.row) i) }
-    {
-        (i / self.row.count as u64)
+        let count = self.row.count as u64;
+        let mark = marks[(i % count) as usize] as u64;
+        (i / count)
             .checked_mul(self.row.cycle as u64)?
-            .checked_add(self.edge_of(edge, i) as u64)
+            .checked_add(mark)
     }
 
     // When instance `i` starts, or nothing where that passes 64 bits.
     pub fn start(&self, i: u64) -> Option<u64>
-        ensures { Fitting result (start_of (rhythm_of self.now.row) i) }
+        ensures { SomeIff result (start_of (stage_of self.now.row) i < 2 ^ 64) (start_of (stage_of self.now.row) i) }
     {
-        self.time_of(Edge::Start, i)
+        self.time_of(&self.row.starts, i)
     }
 
     // When instance `i` stops, or nothing where that passes 64 bits.
     pub fn stop(&self, i: u64) -> Option<u64>
-        ensures { Fitting result (stop_of (rhythm_of self.now.row) i) }
+        ensures { SomeIff result (stop_of (stage_of self.now.row) i < 2 ^ 64) (stop_of (stage_of self.now.row) i) }
     {
-        self.time_of(Edge::Stop, i)
+        self.time_of(&self.row.stops, i)
     }
 
     // The last mark that starts at or before `time`, or nothing where the first starts later.
     pub fn latest_mark(&self, time: u32) -> Option<usize>
-        ensures { Latest (rhythm_of self.now.row) time result }
+        ensures { MatchOption result (time < (mark_of (stage_of self.now.row) 0).0) (Latest (stage_of self.now.row) time) }
     {
         let count = self.row.count as usize;
         let mut passed = 0;
@@ -57,7 +48,7 @@ impl LawfulRow {
 
     // The first instance that starts at or after `time`.
     pub fn next(&self, time: u64) -> u64
-        ensures { FirstFrom (rhythm_of self.now.row) time result }
+        ensures { FirstFrom (stage_of self.now.row) time result }
     {
         let cycle = self.row.cycle as u64;
         let whole = time / cycle * self.row.count as u64;

@@ -1,5 +1,5 @@
 use Rattle.std.proofs.Common.{arith}
-use Rattle.platform.proofs.Told.{told, whole_high, instance-told}
+use Rattle.platform.proofs.Told.{told, whole_high, instance_told}
 use Rattle.platform.proofs.instance.instance.Goals as goal
 
 pub overflow-mul-whole : goal.overflow-mul-whole
@@ -23,4 +23,4 @@ overflow-add-result-2 g c =
     omega arith
 
 pub returns : goal.returns
-returns g c = instance-told _ _ _ c.requires.shape c.args.i _ _ c.in-Some.ensures
+returns g c = instance_told _ _ _ c.requires.shape c.args.i _ _ c.in-Some.ensures

@@ -1,5 +1,5 @@
 use Rattle.std.proofs.Common.{sym, subst, arith}
-use Rattle.stage.specs.inner.Divisors.{GreatestCommonDivisor}
+use Rattle.stage.specs.Periods.{GreatestCommonDivisor}
 use Rattle.stage.proofs.Divisors.{gcd_step, gcd_zero}
 use Rattle.stage.proofs.period.gcd.Goals as goal
 

@@ -1,5 +1,5 @@
 use Rattle.std.proofs.Common.{ℕ}
-use Rattle.stage.specs.inner.Divisors.{GreatestCommonDivisor}
+use Rattle.stage.specs.Periods.{GreatestCommonDivisor}
 use Rattle.stage.proofs.period.gcd.Given as goal
 
 -- what is the greatest common divisor of the two numbers at hand is that of the first two

@@ -5,7 +5,7 @@ use Rattle.stage.proofs.Divisors.{pair_first, pair_second, pair_least, zero_divi
 use Rattle.stage.proofs.period.lcm.Goals as goal
 
 pub returns-then-a-lt1 : goal.returns-then-a-lt1
-returns-then-a-lt1 c = λ (m, common, low).
+returns-then-a-lt1 c = λ m common.
     ⊎_elim
     (λ e. absurd (zero_divides m common.positive (subst (λ n. Divides n m) (omega arith) (pair_first c.args.a c.args.b m common))))
     (λ e. absurd (zero_divides m common.positive (subst (λ n. Divides n m) (omega (arith, e.1)) (pair_second c.args.a c.args.b m common))))
@@ -21,6 +21,6 @@ returns-then-product c =
     (pair_least c.args.a c.args.b c.gcd.result (omega arith) (omega arith) c.gcd.ensures, c.if-product.true)
 
 pub returns-else-product : goal.returns-else-product
-returns-else-product c = λ (m, common, low).
+returns-else-product c = λ m common.
     let least = pair_least c.args.a c.args.b c.gcd.result (omega arith) (omega arith) c.gcd.ensures in
     omega (arith, le_of_dvd common.positive (least.least m common), c.if-product.false)

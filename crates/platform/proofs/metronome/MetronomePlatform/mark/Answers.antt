@@ -1,10 +1,9 @@
 use Rattle.std.proofs.Common.{rules}
 use Rattle.platform.specs.Soundness.{limits}
-use Rattle.platform.specs.Records.{in_range}
-use Rattle.platform.proofs.Found.{listed_fit}
+use Rattle.platform.proofs.Found.{found_in_range}
 use Rattle.platform.proofs.metronome.MetronomePlatform.mark.Goals as goal
 
 pub overflow-add-result : goal.overflow-add-result
 overflow-add-result c =
-    let range = limits c.in-Some.record (listed_fit in_range _ _ c.in-Some.record c.in-Some.ensures) in
+    let range = limits c.in-Some.record (found_in_range _ _ c.in-Some.record c.in-Some.ensures) in
     search rules

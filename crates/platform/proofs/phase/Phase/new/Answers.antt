@@ -1,5 +1,5 @@
 use Rattle.std.proofs.Common.{refl}
-use Rattle.reshape.proofs.Phases.{every_phase}
+use Rattle.platform.proofs.Layers.{every_phase}
 use Rattle.platform.proofs.phase.Phase.new.Goals as goal
 
 pub returns : goal.returns

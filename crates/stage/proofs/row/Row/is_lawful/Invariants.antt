@@ -1,5 +1,5 @@
 use Rattle.std.proofs.Common.{◌≡◌}
-use Rattle.stage.proofs.Rows.{Kept, floor-at}
+use Rattle.stage.proofs.Marks.{Kept, floor-at}
 use Rattle.stage.proofs.row.Row.is_lawful.Given as goal
 
 abbrev pub invariant-loop-a : goal.invariant-loop-a

@@ -1,0 +1,176 @@
+-- What the layers promise of every lawful stage.
+-- Assumes nothing.
+use Rattle.std.proofs.Common.{◌≡◌, ℕ, ◌+◌, ◌-◌, ◌*◌, ◌/◌, ◌%◌, ◌<◌, ◌≤◌, refl, ap, ◌∙◌, subst, ⊎_elim, mod-lt, mod-eq_of_lt, div-add-mod', arith}
+use native.Mathlib.Nat.{add-mod_right}
+use Rattle.std.proofs.lemmas.Bool.{cases_lt}
+use Rattle.stage.specs.Stages.{Stage, Lawful, count_of, mark_of, start_of, stop_of}
+use Rattle.stage.proofs.Order.{in_order}
+use Rattle.platform.specs.Phases.{before, staying, phase_stage, Runs, time_below, EveryPhase}
+use Rattle.platform.specs.Thins.{thin_stage, EveryThinning}
+use Rattle.platform.specs.LayerSoundness.{thin_count, thin_start, thin_stop, start_later, stop_later, mark_start, mark_stop, before_early, phase_count, phase_start, phase_stop, shift_low, staying_within, leaves, phase_lawful}
+
+-- an instance, by its cycle and its mark
+pub start_by : (t : Stage) (k i : ℕ) → count_of t ≡ k → start_of t i ≡ i / k * t.cycle + (mark_of t (i % k)).0
+unfolding start_of
+start_by t k i e = subst (λ n. start_of t i ≡ i / n * t.cycle + (mark_of t (i % n)).0) e refl
+
+pub stop_by : (t : Stage) (k i : ℕ) → count_of t ≡ k → stop_of t i ≡ i / k * t.cycle + (mark_of t (i % k)).1
+unfolding stop_of
+stop_by t k i e = subst (λ n. stop_of t i ≡ i / n * t.cycle + (mark_of t (i % n)).1) e refl
+
+module _ (n r : ℕ) (s : Stage) (l : Lawful s) (i : ℕ) where
+  -- the instance below, by the mark above and its cycle
+  below_at : n * (i % count_of s) + r + n * (i / count_of s) * count_of s ≡ n * i + r
+  below_at = omega (arith, ap (λ x. n * x + r) (div-add-mod' i (count_of s)))
+
+  thin-cycle : (thin_stage n r s).cycle ≡ n * s.cycle
+  unfolding thin_stage
+  thin-cycle = refl
+
+  thin-starts : start_of (thin_stage n r s) i ≡ start_of s (n * i + r)
+  thin-starts =
+      let above = start_by (thin_stage n r s) (count_of s) i (thin_count n r s) in
+      let cycles = ap (λ x. i / count_of s * x) thin-cycle in
+      let mark = thin_start n r s (i % count_of s) (mod-lt i l.count_low) in
+      let later = start_later s l (n * (i / count_of s)) (n * (i % count_of s) + r) in
+      let here = ap (start_of s) below_at in
+      omega arith
+
+  thin-stops : stop_of (thin_stage n r s) i ≡ stop_of s (n * i + r)
+  thin-stops =
+      let above = stop_by (thin_stage n r s) (count_of s) i (thin_count n r s) in
+      let cycles = ap (λ x. i / count_of s * x) thin-cycle in
+      let mark = thin_stop n r s (i % count_of s) (mod-lt i l.count_low) in
+      let later = stop_later s l (n * (i / count_of s)) (n * (i % count_of s) + r) in
+      let here = ap (stop_of s) below_at in
+      omega arith
+
+pub every_thinning : EveryThinning
+unfolding thin_stage
+every_thinning n r s some few below l fits =
+    record {
+      n_cycles = refl;
+      same_rank = refl;
+      same_count = thin_count n r s;
+      starts_below = thin-starts n r s l;
+      stops_below = thin-stops n r s l;
+    }
+
+module _ (d : ℕ) (s : Stage) (l : Lawful s) where
+  -- mark a above is mark b below, which left the cycle and comes back one cycle earlier
+  module _ (a b : ℕ) (e : staying d s + a ≡ b) (k : b < count_of s) where
+    wraps-start : (mark_of (phase_stage d s) a).0 + s.cycle ≡ (mark_of s b).0 + d % s.cycle
+    wraps-start =
+        omega (arith, phase_start d s a (omega arith), ap (start_of s) e, mark_start s l b k, leaves d s l b (omega arith))
+
+    wraps-stop : (mark_of (phase_stage d s) a).1 + s.cycle ≡ (mark_of s b).1 + d % s.cycle
+    wraps-stop =
+        omega (
+          arith,
+          phase_stop d s a (omega arith),
+          ap (stop_of s) e,
+          mark_start s l b k,
+          mark_stop s l b k,
+          leaves d s l b (omega arith),
+          l.stop_after_start b k,
+        )
+
+  -- mark a above is mark b below, which stays in the cycle
+  module _ (a b : ℕ) (e : staying d s + a ≡ b + count_of s) (k : b < staying d s) where
+    stays-start : (mark_of (phase_stage d s) a).0 ≡ (mark_of s b).0 + d % s.cycle
+    stays-start =
+        let w = staying_within d s l in
+        omega (arith, phase_start d s a (omega arith), ap (start_of s) e, mark_start s l b (omega arith), (in_order s l).start_shift b)
+
+    stays-stop : (mark_of (phase_stage d s) a).1 ≡ (mark_of s b).1 + d % s.cycle
+    stays-stop =
+        let w = staying_within d s l in
+        omega (arith, phase_stop d s a (omega arith), ap (stop_of s) e, mark_stop s l b (omega arith), (in_order s l).stop_shift b)
+
+  -- the time below of a time before the shift, and of one from the shift on
+  time-wraps : (time : ℕ) → time < d % s.cycle → time_below d s time ≡ time + s.cycle - d % s.cycle
+  time-wraps time h = mod-eq_of_lt (omega (arith, shift_low d s l))
+
+  time-stays : (time : ℕ) → d % s.cycle ≤ time → time < s.cycle → time_below d s time ≡ time - d % s.cycle
+  time-stays time h k =
+      let at : time + s.cycle - d % s.cycle ≡ time - d % s.cycle + s.cycle = omega arith in
+      ap (λ x. x % s.cycle) at ∙ (add-mod_right (time - d % s.cycle) s.cycle ∙ mod-eq_of_lt (omega arith))
+
+  -- a mark leaves the cycle just where its number says so
+  leaves-from : (b : ℕ) → s.cycle ≤ (mark_of s b).0 + d % s.cycle → staying d s ≤ b
+  leaves-from b h =
+      ⊎_elim (λ k. omega (arith, before_early (s.cycle - d % s.cycle) s.marks b k)) (λ k. k) (cases_lt b (staying d s))
+
+  stays-before : (b : ℕ) → b < count_of s → (mark_of s b).0 + d % s.cycle < s.cycle → b < staying d s
+  stays-before b h k = ⊎_elim (λ e. e) (λ e. omega (arith, mark_start s l b h, leaves d s l b e)) (cases_lt b (staying d s))
+
+  to_above : (time span : ℕ) → time < s.cycle → Runs s (time_below d s time) span → Runs (phase_stage d s) time span
+  to_above time span h run =
+      let b = run.at in
+      let n = phase_count d s in
+      let w = staying_within d s l in
+      ⊎_elim
+      (λ early.
+      let t = time-wraps time early in
+      let from : staying d s ≤ b = leaves-from b (omega (arith, run.starts)) in
+      let e : staying d s + (b - staying d s) ≡ b = omega arith in
+      record {
+        at = b - staying d s;
+        present = omega (arith, run.present);
+        starts = omega (arith, run.starts, wraps-start (b - staying d s) b e run.present);
+        stops = omega (arith, run.stops, wraps-stop (b - staying d s) b e run.present);
+      })
+      (λ late.
+      let t = time-stays time late h in
+      let from : b < staying d s = stays-before b run.present (omega (arith, run.starts)) in
+      let e : staying d s + (b + count_of s - staying d s) ≡ b + count_of s = omega arith in
+      record {
+        at = b + count_of s - staying d s;
+        present = omega arith;
+        starts = omega (arith, run.starts, stays-start (b + count_of s - staying d s) b e from);
+        stops = omega (arith, run.stops, stays-stop (b + count_of s - staying d s) b e from);
+      })
+      (cases_lt time (d % s.cycle))
+
+  from_below : (time span : ℕ) → Runs (phase_stage d s) time span → Runs s (time_below d s time) span
+  from_below time span run =
+      let a = run.at in
+      let n = phase_count d s in
+      let w = staying_within d s l in
+      ⊎_elim
+      (λ k.
+      let start = wraps-start a (staying d s + a) refl k in
+      let low = l.start_in_cycle (staying d s + a) k in
+      let t = time-wraps time (omega (arith, run.starts)) in
+      record {
+        at = staying d s + a;
+        present = k;
+        starts = omega (arith, run.starts);
+        stops = omega (arith, run.starts, run.stops, wraps-stop a (staying d s + a) refl k);
+      })
+      (λ k.
+      let b : ℕ = staying d s + a - count_of s in
+      let in_time : b < staying d s = omega (arith, run.present) in
+      let e : staying d s + a ≡ b + count_of s = omega arith in
+      let start = stays-start a b e in_time in
+      let low = before_early (s.cycle - d % s.cycle) s.marks b in_time in
+      let t = time-stays time (omega (arith, run.starts)) (omega (arith, run.starts)) in
+      record {
+        at = b;
+        present = omega arith;
+        starts = omega (arith, run.starts);
+        stops = omega (arith, run.starts, run.stops, stays-stop a b e in_time);
+      })
+      (cases_lt (staying d s + a) (count_of s))
+
+pub every_phase : EveryPhase
+unfolding phase_stage
+every_phase d s l =
+    record {
+      same_cycle = refl;
+      same_rank = refl;
+      same_count = phase_count d s;
+      in_cycle = λ time span run. subst (λ x. x < s.cycle) run.starts ((phase_lawful d s l).start_in_cycle run.at run.present);
+      from_below = from_below d s l;
+      to_above = to_above d s l;
+    }
