@@ -1,7 +1,7 @@
 -- Euclid's step, and the least common multiple from the greatest common divisor.
 -- Assumes nothing.
-use Rattle.std.proofs.Common.{◌≡◌, ℕ, zero, suc, ◌+◌, ◌-◌, ◌*◌, ◌/◌, ◌%◌, ◌<◌, ◌≤◌, ◌⊎◌, List, [], ◌∷◌, length, get_or, take, sym, refl, ap, ◌∙◌, subst, inl, inr, ⊎_elim, mul_assoc, mul_comm, mul-pos, div-add-mod', zero-mul, arith, below_more}
-use native.Mathlib.Nat.{dvd_refl, one-dvd, dvd-zero, dvd_trans, dvd-mul_left, dvd-mul_right, dvd-mul_left_of_dvd, dvd-mul_right_of_dvd, dvd-mod_iff, dvd-add, dvd-sub, le_of_dvd, mul-dvd-mul_left, mul-dvd-mul_right, dvd_of_mul-dvd-mul_left, div-mul_cancel, mul-div_cancel', pos_of_dvd_of_pos, eq-zero_of_zero-dvd}
+use Rattle.std.proofs.Common.{◌≡◌, ℕ, zero, suc, ◌+◌, ◌-◌, ◌*◌, ◌/◌, ◌%◌, ◌<◌, List, [], ◌∷◌, length, get_or, ap, subst, ⊎_elim, mul_comm, mul-pos, div-add-mod', arith, below_more}
+use native.Mathlib.Nat.{dvd_refl, one-dvd, dvd-zero, dvd_trans, dvd-mul_left, dvd-mul_right, dvd-mul_left_of_dvd, dvd-mod_iff, dvd-sub, mul-dvd-mul_left, dvd_of_mul-dvd-mul_left, div-mul_cancel, pos_of_dvd_of_pos, eq-zero_of_zero-dvd}
 use Rattle.std.proofs.lemmas.Bool.{cases_lt}
 use Rattle.stage.specs.Periods.{Divides, CommonMultiple, LeastCommonMultiple, GreatestCommonDivisor}
 

@@ -1,8 +1,8 @@
 -- The first instance from a time on, by the marks that start before that time within the cycle.
 -- Assumes nothing.
-use Rattle.std.proofs.Common.{◌≡◌, ℕ, zero, suc, ◌+◌, ◌-◌, ◌*◌, ◌/◌, ◌%◌, ◌<◌, ◌≤◌, ◌⊎◌, get_or, Some, None, Option, sym, refl, ap, ◌∙◌, subst, inl, inr, ⊎_elim, mod-lt, div-add-mod', zero-mul, arith, MatchOption}
+use Rattle.std.proofs.Common.{◌≡◌, ℕ, zero, suc, ◌+◌, ◌-◌, ◌*◌, ◌/◌, ◌%◌, ◌<◌, ◌≤◌, get_or, Some, None, Option, ap, subst, ⊎_elim, mod-lt, div-add-mod', zero-mul, arith, MatchOption}
 use Rattle.std.proofs.lemmas.Bool.{cases_lt, cases_order}
-use Rattle.stage.specs.Stages.{Stage, Lawful, count_of, mark_of, start_of, stop_of}
+use Rattle.stage.specs.Stages.{Stage, Lawful, count_of, mark_of, start_of}
 use Rattle.stage.specs.Instances.{InOrder, FirstFrom}
 use Rattle.stage.specs.Rows.{Latest, stage_of}
 use Rattle.stage.proofs.Order.{start_at, in_order}

@@ -1,11 +1,11 @@
 -- The instances of a lawful stage come one after the other and repeat with the cycle.
 -- Assumes nothing.
-use Rattle.std.proofs.Common.{◌≡◌, ℕ, zero, suc, ◌+◌, ◌-◌, ◌*◌, ◌/◌, ◌%◌, ◌<◌, ◌≤◌, ◌⊎◌, sym, refl, ap, ◌∙◌, subst, inl, inr, ⊎_elim, add_assoc, mod-lt, div-add-mod', add-one, arith}
+use Rattle.std.proofs.Common.{◌≡◌, ℕ, zero, suc, ◌+◌, ◌-◌, ◌*◌, ◌/◌, ◌%◌, ◌<◌, ◌≤◌, refl, subst, ⊎_elim, add_assoc, mod-lt, div-add-mod', add-one, arith}
 use native.Mathlib.Nat.{add-div_right, add-mod_right}
 use lib.Arith.{digits_div, digits_mod}
 use Rattle.std.proofs.lemmas.Bool.{cases_lt}
 use Rattle.stage.specs.Stages.{Stage, Lawful, count_of, mark_of, start_of, stop_of}
-use Rattle.stage.specs.Instances.{InOrder, FirstFrom}
+use Rattle.stage.specs.Instances.{InOrder}
 
 -- instance q × count + a, by its mark
 pub start_at : (s : Stage) (q a : ℕ) → a < count_of s → start_of s (q * count_of s + a) ≡ q * s.cycle + (mark_of s a).0

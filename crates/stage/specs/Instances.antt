@@ -1,7 +1,7 @@
 -- What holds of the instances of a stage, for ever.
 -- Assumes nothing.
-use Rattle.std.specs.Prelude.{◌≡◌, ℕ, ◌+◌, ◌-◌, ◌*◌, ◌<◌, ◌≤◌}
-use Rattle.stage.specs.Stages.{Stage, Lawful, count_of, start_of, stop_of}
+use Rattle.std.specs.Prelude.{◌≡◌, ℕ, ◌+◌, ◌<◌, ◌≤◌}
+use Rattle.stage.specs.Stages.{Stage, count_of, start_of, stop_of}
 
 -- The instances of a stage come one after the other and repeat with the cycle.
 pub record InOrder (s : Stage) : Type 0 where

@@ -1,4 +1,6 @@
 // One stage in memory: its row, the four laws, and when its instances start and stop; and the macro-period.
+#![tactic(auto)]
+
 pub mod lawful;
 pub mod period;
 pub mod row;

@@ -1,4 +1,4 @@
-use Rattle.std.proofs.Common.{◌<◌, ◌≤◌, subst, ⊎_elim, arith}
+use Rattle.std.proofs.Common.{◌<◌, subst, ⊎_elim, arith}
 use native.Mathlib.Nat.{pos_of_dvd_of_pos, le_of_dvd}
 use Rattle.stage.specs.Periods.{Divides}
 use Rattle.stage.proofs.Divisors.{pair_first, pair_second, pair_least, zero_divides}
@@ -11,8 +11,8 @@ returns-then-a-lt1 c = λ m common.
     (λ e. absurd (zero_divides m common.positive (subst (λ n. Divides n m) (omega (arith, e.1)) (pair_second c.args.a c.args.b m common))))
     c.then-a-lt1.either
 
-pub nonzero-div-product : goal.nonzero-div-product
-nonzero-div-product c =
+pub nonzero_div-product : goal.nonzero_div-product
+nonzero_div-product c =
     let pos : 0 < c.args.a = omega arith in
     pos_of_dvd_of_pos c.gcd.ensures.divides_first pos
 

@@ -16,4 +16,4 @@ returns c =
       | then-loop-passed-test+else-self-passed w ↦ w.if-self-passed.false
       | else-loop-passed-test w ↦ omega (arith, w.loop-passed-test.false)
     ])
-    _ c.checked-sub.ensures
+    _ c.checked_sub.ensures

@@ -1,20 +1,19 @@
-use Rattle.std.proofs.Common.{◌≡◌, ◌+◌, ◌≤◌, get_or, sym, ap, ◌∙◌, subst, arith, le→leb, leb→le, rules}
-use Rattle.stage.specs.Rows.{LawfulMark}
+use Rattle.std.proofs.Common.{◌≡◌, sym, ap, ◌∙◌, subst, arith, le→leb, leb→le, rules}
 use Rattle.stage.proofs.Marks.{Kept, floor-at, count_is, to_lawful, from_lawful, last_in_time}
 use Rattle.stage.proofs.row.Row.is_lawful.Goals as goal
 
 pub returns-then-count-lt1 : goal.returns-then-count-lt1
 returns-then-count-lt1 c =
-    record { sound = λ t. absurd t; complete = λ l. omega (arith, count_is c.args.self.now, l.count-low, l.count_high) }
+    record { sound = λ t. absurd t; complete = λ l. omega (arith, count_is c.args.self.now, l.count_low, l.count_high) }
 
-pub returns-then-not-is-lawful-mark : goal.returns-then-not-is-lawful-mark
-returns-then-not-is-lawful-mark c =
+pub returns-then-not-is_lawful_mark : goal.returns-then-not-is_lawful_mark
+returns-then-not-is_lawful_mark c =
     record {
       sound = λ t. absurd t;
       complete = λ l.
           let kept = from_lawful c.args.self.now l c.loop-a.a c.loop-a-test.true in
           let same = sym c.loop-a.invariant.1 in
-          c.if-not-is-lawful-mark.ensures.complete (rw same at kept);
+          c.if-not-is_lawful_mark.ensures.complete (rw same at kept);
     }
 
 pub returns : goal.returns
