@@ -1,7 +1,7 @@
 -- Timed paths along lawful stages are the paths on the route of their hops.
 -- Assumes nothing.
 use Rattle.std.proofs.Common.{ℕ, List, [], ◌∷◌}
-use Rattle.std.specs.List.{AllByRecursion as All}
+use Rattle.std.specs.List.{AllByRecursion}
 use Rattle.stage.specs.Stages.{Stage, Lawful}
 use Rattle.path.specs.Timed.{Timed}
 use Rattle.path.specs.Steps.{hops_from}
@@ -9,11 +9,11 @@ use Rattle.path.proofs.Hops.{Tied}
 use Rattle.path.proofs.Ready.{hop_tied, reaches_back, back_reaches}
 use Rattle.path.proofs.Routes.{Path}
 
-pub hops_tied : (s : Stage) (ss : List Stage) → Lawful s → All Lawful ss → All Tied (hops_from s ss)
+pub hops_tied : (s : Stage) (ss : List Stage) → Lawful s → AllByRecursion Lawful ss → AllByRecursion Tied (hops_from s ss)
 hops_tied s [] l ls = tt
 hops_tied s (r ∷ ss) l ls = (hop_tied s r l ls.0, hops_tied r ss ls.0 ls.1)
 
-pub timed_path : (s : Stage) (ss : List Stage) → Lawful s → All Lawful ss → (p : List ℕ) → Timed (s ∷ ss) p → Path (hops_from s ss) p
+pub timed_path : (s : Stage) (ss : List Stage) → Lawful s → AllByRecursion Lawful ss → (p : List ℕ) → Timed (s ∷ ss) p → Path (hops_from s ss) p
 timed_path s [] l ls [] t = t
 timed_path s [] l ls (i ∷ []) t = t
 timed_path s [] l ls (i ∷ (j ∷ p)) t = t
@@ -22,7 +22,7 @@ timed_path s (r ∷ ss) l ls (i ∷ []) t = t
 timed_path s (r ∷ ss) l ls (i ∷ (j ∷ p)) t =
     (reaches_back s r l ls.0 i j t.0, timed_path r ss ls.0 ls.1 (j ∷ p) t.1)
 
-pub path_timed : (s : Stage) (ss : List Stage) → Lawful s → All Lawful ss → (p : List ℕ) → Path (hops_from s ss) p → Timed (s ∷ ss) p
+pub path_timed : (s : Stage) (ss : List Stage) → Lawful s → AllByRecursion Lawful ss → (p : List ℕ) → Path (hops_from s ss) p → Timed (s ∷ ss) p
 path_timed s [] l ls [] t = t
 path_timed s [] l ls (i ∷ []) t = t
 path_timed s [] l ls (i ∷ (j ∷ p)) t = t

@@ -1,7 +1,7 @@
 -- From the best on the route of hops to the figure of the stages.
 -- Assumes nothing.
 use Rattle.std.proofs.Common.{◌≡◌, ℕ, ◌+◌, ◌-◌, ◌<◌, ◌≤◌, List, ◌∷◌, sym, refl, ap, ◌∙◌, subst, inl, inr, ⊎_elim, arith}
-use Rattle.std.specs.List.{AllByRecursion as All}
+use Rattle.std.specs.List.{AllByRecursion}
 use Rattle.std.proofs.lemmas.Bool.{cases_lt}
 use Rattle.stage.specs.Stages.{Stage, Lawful, start_of, stop_of}
 use Rattle.path.specs.declared.semantics.Semantics.{Semantics}
@@ -18,7 +18,7 @@ use Rattle.path.proofs.Best.{Chosen, From, Takes, BestSoFar}
 use Rattle.path.proofs.Period.{BestOfAll, best_all}
 use Rattle.path.proofs.Shift.{route_clock, route_repeats}
 
-module _ (s : Stage) (ss : List Stage) (l : Lawful s) (ls : All Lawful ss) where
+module _ (s : Stage) (ss : List Stage) (l : Lawful s) (ls : AllByRecursion Lawful ss) where
   pub route_tied : Tied (route_of (s ∷ ss))
   route_tied = along_tied (hops_from s ss) (hops_tied s ss l ls)
 

@@ -2,7 +2,7 @@
 -- proved by computing.
 -- Assumes nothing.
 use Rattle.std.proofs.Common.{◌≡◌, ℕ, zero, suc, ◌+◌, ◌-◌, ◌<◌, Bool, true, false, cond, ltb, List, length, Option, subst, arith}
-use Rattle.std.specs.List.{AllByRecursion as All}
+use Rattle.std.specs.List.{AllByRecursion}
 use Rattle.std.proofs.lemmas.Bool.{ltb-true, ltb-false, cond_both}
 use Rattle.stage.specs.Stages.{Stage, Lawful, start_of, stop_of}
 use Rattle.path.specs.declared.semantics.Semantics.{Semantics}
@@ -66,7 +66,7 @@ start_state h = record { at = first_block h; after = 0; delay = 0; origin = 0; l
 abbrev VisitAt : Semantics → List Stage → State → Type 0
 VisitAt m ss s = Visit m ss s.at s.after s.delay s.origin s.last
 
-module _ (m : Semantics) (ss : List Stage) (some : 0 < length ss) (ls : All Lawful ss) where
+module _ (m : Semantics) (ss : List Stage) (some : 0 < length ss) (ls : AllByRecursion Lawful ss) where
   one_kept : (s : State) → VisitAt m ss s → VisitAt m ss (visit_one m ss (route_of ss) s)
   unfolding visit_one
   one_kept s v =
@@ -92,7 +92,7 @@ pub record Found (m : Semantics) (ss : List Stage) (hs : List Hop) (span n delay
   pub predecessor_is : shown_predecessor m (visit_many m ss (hop_along hs) n (start_state (hop_along hs))).origin ≡ predecessor
   pub witness_is : trace_back hs (visit_many m ss (hop_along hs) n (start_state (hop_along hs))).last ≡ witness
 
-found_figure : (m : Semantics) (ss : List Stage) → 0 < length ss → All Lawful ss → (span : ℕ) → Common span ss → (n delay : ℕ) (predecessor : Option ℕ) (witness : List ℕ) → Found m ss (hops_of ss) span n delay predecessor witness → Figure m ss delay predecessor witness
+found_figure : (m : Semantics) (ss : List Stage) → 0 < length ss → AllByRecursion Lawful ss → (span : ℕ) → Common span ss → (n delay : ℕ) (predecessor : Option ℕ) (witness : List ℕ) → Found m ss (hops_of ss) span n delay predecessor witness → Figure m ss delay predecessor witness
 found_figure m ss some ls span c n d p w f =
     let s = visit_many m ss (route_of ss) n (start_state (route_of ss)) in
     let v = many-kept m ss some ls n (start_state (route_of ss)) (visit_start m ss some ls 0) in
@@ -103,6 +103,6 @@ found_figure m ss some ls span c n d p w f =
     (subst (λ x. Figure m ss s.delay (shown_predecessor m s.origin) x) f.witness_is g))
 
 -- The figure, by computing with the quick hops.
-pub figure_found : (m : Semantics) (ss : List Stage) → 0 < length ss → All Lawful ss → (span : ℕ) → Common span ss → (n delay : ℕ) (predecessor : Option ℕ) (witness : List ℕ) → Found m ss (quick_hops ss) span n delay predecessor witness → Figure m ss delay predecessor witness
+pub figure_found : (m : Semantics) (ss : List Stage) → 0 < length ss → AllByRecursion Lawful ss → (span : ℕ) → Common span ss → (n delay : ℕ) (predecessor : Option ℕ) (witness : List ℕ) → Found m ss (quick_hops ss) span n delay predecessor witness → Figure m ss delay predecessor witness
 figure_found m ss some ls span c n d p w f =
     found_figure m ss some ls span c n d p w (subst (λ hs. Found m ss hs span n d p w) (quick_hops_are ss ls) f)

@@ -1,7 +1,7 @@
 -- Lawful rows in memory: their stages keep the laws.
 -- Assumes nothing.
 use Rattle.std.proofs.Common.{◌≡◌, ℕ, ◌<◌, List, [], ◌∷◌, length, get_or}
-use Rattle.std.specs.List.{AllByRecursion as All}
+use Rattle.std.specs.List.{AllByRecursion}
 use Rattle.std.proofs.lemmas.List.{get_or-map, length-map}
 use Rattle.stage.specs.Stages.{Stage, Lawful}
 use Rattle.stage.specs.declared.lawful.LawfulRow.{LawfulRow}
@@ -11,7 +11,7 @@ use Rattle.path.specs.Given.{stage_in, stages_of}
 pub laws_in : (x : LawfulRow) → Lawful (stage_in x)
 laws_in x = laws_of (stage_in x) x.lawful
 
-pub all_laws : (rows : List LawfulRow) → All Lawful (stages_of rows)
+pub all_laws : (rows : List LawfulRow) → AllByRecursion Lawful (stages_of rows)
 all_laws [] = tt
 all_laws (x ∷ rows) = (laws_in x, all_laws rows)
 

@@ -2,7 +2,7 @@
 -- Assumes nothing.
 use Rattle.std.proofs.Common.{◌≡◌, ℕ, zero, suc, ◌+◌, ◌-◌, ◌*◌, ◌/◌, ◌%◌, ◌<◌, cond, ltb, List, [], ◌∷◌, refl, ap, ◌∙◌, ⊎_elim, mod-lt, div-add-mod', add-one, arith}
 use mathlib.Core.Path.{fun_ext}
-use Rattle.std.specs.List.{AllByRecursion as All}
+use Rattle.std.specs.List.{AllByRecursion}
 use Rattle.std.proofs.lemmas.Bool.{cases_lt, cases_Bool, ltb-true, ltb-false, cond-true, cond-false}
 use Rattle.stage.specs.Stages.{Stage, Lawful, count_of, start_of, stop_of}
 use Rattle.stage.specs.Instances.{FirstFrom}
@@ -111,11 +111,11 @@ abbrev pub quick_hops : List Stage → List Hop
 quick_hops [] = []
 quick_hops (s ∷ ss) = quick_from s ss
 
-quick_from_is : (s : Stage) (ss : List Stage) → Lawful s → All Lawful ss → quick_from s ss ≡ hops_from s ss
+quick_from_is : (s : Stage) (ss : List Stage) → Lawful s → AllByRecursion Lawful ss → quick_from s ss ≡ hops_from s ss
 quick_from_is s [] l ls = refl
 quick_from_is s (r ∷ ss) l ls =
     ap (λ x. x ∷ quick_from r ss) (hop_quick_is s r l ls.0) ∙ ap (λ x. hop_between s r ∷ x) (quick_from_is r ss ls.0 ls.1)
 
-pub quick_hops_are : (ss : List Stage) → All Lawful ss → quick_hops ss ≡ hops_of ss
+pub quick_hops_are : (ss : List Stage) → AllByRecursion Lawful ss → quick_hops ss ≡ hops_of ss
 quick_hops_are [] ls = refl
 quick_hops_are (s ∷ ss) ls = quick_from_is s ss ls.0 ls.1

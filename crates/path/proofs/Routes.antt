@@ -1,13 +1,13 @@
 -- A route of hops: steps ahead and back along all of it, and the paths on it.
 -- Assumes nothing.
 use Rattle.std.proofs.Common.{◌≡◌, ℕ, ◌+◌, ◌-◌, ◌<◌, List, [], ◌∷◌, refl, ap, ◌∙◌, subst, ⊎_elim, arith}
-use Rattle.std.specs.List.{AllByRecursion as All}
+use Rattle.std.specs.List.{AllByRecursion}
 use Rattle.std.proofs.lemmas.Bool.{cases_lt}
 use Rattle.path.specs.Timed.{last_or, first_of, last_of}
 use Rattle.path.specs.Steps.{Hop, hop_along, trace_back}
 use Rattle.path.proofs.Hops.{Tied, Joins, stay_tied, both_tied, back_none}
 
-pub along_tied : (hs : List Hop) → All Tied hs → Tied (hop_along hs)
+pub along_tied : (hs : List Hop) → AllByRecursion Tied hs → Tied (hop_along hs)
 along_tied [] t = stay_tied
 along_tied (h ∷ hs) t = both_tied h (hop_along hs) t.0 (along_tied hs t.1)
 
@@ -57,7 +57,7 @@ positive_inside h t c l =
     ⊎_elim (λ k. k) (λ k. let e : h.back c ≡ h.back 0 = ap h.back (omega arith) in absurd (omega (arith, back_none h t)))
     (cases_lt 0 c)
 
-pub trace_first : (hs : List Hop) → All Tied hs → (j : ℕ) → 0 < (hop_along hs).back (j + 1) → first_of (trace_back hs j) + 1 ≡ (hop_along hs).back (j + 1)
+pub trace_first : (hs : List Hop) → AllByRecursion Tied hs → (j : ℕ) → 0 < (hop_along hs).back (j + 1) → first_of (trace_back hs j) + 1 ≡ (hop_along hs).back (j + 1)
 unfolding trace_back
 trace_first [] t j l = refl
 trace_first (h ∷ hs) t j l =
@@ -65,7 +65,7 @@ trace_first (h ∷ hs) t j l =
     let e = ap h.back rest in
     omega arith
 
-pub trace_path : (hs : List Hop) → All Tied hs → (j : ℕ) → 0 < (hop_along hs).back (j + 1) → Path hs (trace_back hs j)
+pub trace_path : (hs : List Hop) → AllByRecursion Tied hs → (j : ℕ) → 0 < (hop_along hs).back (j + 1) → Path hs (trace_back hs j)
 unfolding trace_back
 trace_path [] t j l = tt
 trace_path (h ∷ hs) t j l =

@@ -1,7 +1,7 @@
 -- Steps along a list of stages by index, as a loop takes them.
 -- Assumes nothing.
 use Rattle.std.proofs.Common.{◌≡◌, ℕ, zero, suc, ◌+◌, ◌-◌, ◌<◌, ◌≤◌, List, [], ◌∷◌, length, get_or, drop, sym, refl, ap, ◌∙◌, subst, add-one, arith}
-use Rattle.std.specs.List.{AllByRecursion as All}
+use Rattle.std.specs.List.{AllByRecursion}
 use Rattle.std.proofs.lemmas.List.{drop_more, drop_all}
 use Rattle.stage.specs.Stages.{Stage, Lawful}
 use Rattle.path.specs.Timed.{last_or, first_stage, last_stage, no_stage}
@@ -50,7 +50,7 @@ last_stage_at [] k h = absurd (omega arith)
 last_stage_at (s ∷ ss) k h = last_or_at s ss ∙ ap (λ x. get_or (s ∷ ss) x no_stage) (omega arith)
 
 -- All of a route's hops are tied, for lawful stages.
-pub all_tied : (ss : List Stage) → All Lawful ss → All Tied (hops_of ss)
+pub all_tied : (ss : List Stage) → AllByRecursion Lawful ss → AllByRecursion Tied (hops_of ss)
 all_tied [] ls = tt
 all_tied (s ∷ ss) ls = hops_tied s ss ls.0 ls.1
 
@@ -73,16 +73,16 @@ drop_hops [] k h = absurd (omega arith)
 drop_hops (s ∷ ss) k h = drop_hops_from s ss k (omega arith)
 
 -- Each step back to stage k is there, where the one to the first stage is.
-pub steps_back : (ss : List Stage) → All Lawful ss → (c k : ℕ) → k < length ss → 0 < (route_of ss).back c → 0 < (route_of (drop k ss)).back c
+pub steps_back : (ss : List Stage) → AllByRecursion Lawful ss → (c k : ℕ) → k < length ss → 0 < (route_of ss).back c → 0 < (route_of (drop k ss)).back c
 steps_back ss ls c k h l = subst (λ x. 0 < (hop_along x).back c) (drop_hops ss k h) (backs_positive (hops_of ss) (all_tied ss ls) c k l)
 
 -- Entry k of the path that ends at j is one less than the steps back from j + 1 to stage k.
-pub witness_entry : (ss : List Stage) → All Lawful ss → (j k : ℕ) → k < length ss → 0 < (route_of ss).back (j + 1) → get_or (witness_to ss j) k 0 + 1 ≡ (route_of (drop k ss)).back (j + 1)
+pub witness_entry : (ss : List Stage) → AllByRecursion Lawful ss → (j k : ℕ) → k < length ss → 0 < (route_of ss).back (j + 1) → get_or (witness_to ss j) k 0 + 1 ≡ (route_of (drop k ss)).back (j + 1)
 witness_entry ss ls j k h l =
     trace_backs (hops_of ss) (all_tied ss ls) j k (omega (arith, hops_length ss)) l ∙ ap (λ x. (hop_along x).back (j + 1)) (drop_hops ss k h)
 
 -- A list of such entries is that path.
-pub witness_from_entries : (ss : List Stage) → All Lawful ss → (j : ℕ) (p : List ℕ) → 0 < length ss → 0 < (route_of ss).back (j + 1) → length p ≡ length ss → ((k : ℕ) → k < length ss → get_or p k 0 + 1 ≡ (route_of (drop k ss)).back (j + 1)) → p ≡ witness_to ss j
+pub witness_from_entries : (ss : List Stage) → AllByRecursion Lawful ss → (j : ℕ) (p : List ℕ) → 0 < length ss → 0 < (route_of ss).back (j + 1) → length p ≡ length ss → ((k : ℕ) → k < length ss → get_or p k 0 + 1 ≡ (route_of (drop k ss)).back (j + 1)) → p ≡ witness_to ss j
 witness_from_entries ss ls j p some l n at =
     let m = hops_length ss in
     trace_from_backs (hops_of ss) (all_tied ss ls) j p l (omega arith)

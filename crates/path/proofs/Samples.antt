@@ -1,7 +1,7 @@
 -- The worked cases hold: each figure is worked out by computing.
 -- Assumes nothing.
-use Rattle.std.proofs.Common.{ℕ, zero, suc, ◌<◌, ◌≤◌, [], ◌∷◌, Some, None, refl, arith}
-use Rattle.std.specs.List.{AllByRecursion as All}
+use Rattle.std.proofs.Common.{ℕ, zero, suc, ◌<◌, ◌≤◌, [], ◌∷◌, refl, arith}
+use Rattle.std.specs.List.{AllByRecursion}
 use Rattle.stage.specs.Stages.{Lawful, mark_of, start_of, stop_of}
 use Rattle.path.specs.declared.semantics.Semantics.TheVariants.{LL, LF, FL, FF}
 use Rattle.path.specs.Periods.{instances_in}
@@ -47,7 +47,7 @@ stage_5_lawful = one_mark_lawful 10_000 0 3_000 5 (omega arith) (omega arith) (o
 stage_128_lawful : Lawful stage_128
 stage_128_lawful = one_mark_lawful 20_000 0 5_000 1 (omega arith) (omega arith) (omega arith) (omega arith) (omega arith) (omega arith)
 
-pub samples_hold : All Holds samples
+pub samples_hold : AllByRecursion Holds samples
 unfolding start_of stop_of count_to ready_of trace_back next_of ahead_quick back_quick visit_one visit_many instances_in
 samples_hold = (
   figure_found LL (stage_1 ∷ (stage_3 ∷ [])) (omega arith) (stage_1_lawful, (stage_3_lawful, tt)) 20_000 (record { positive = omega arith; whole = (refl, (refl, tt)) }) 9 _ _ _

@@ -1,7 +1,7 @@
 -- The search for a figure, block by block: what it knows when it comes to a block, and what it answers at the end.
 -- Assumes nothing.
 use Rattle.std.proofs.Common.{◌≡◌, ℕ, ◌+◌, ◌-◌, ◌*◌, ◌/◌, ◌<◌, ◌≤◌, List, [], ◌∷◌, length, get_or, refl, subst, ⊎_elim, arith}
-use Rattle.std.specs.List.{AllByRecursion as All}
+use Rattle.std.specs.List.{AllByRecursion}
 use Rattle.std.proofs.ByRecursion.{All-get_or}
 use Rattle.std.proofs.lemmas.Bool.{cases_lt}
 use Rattle.stage.specs.Stages.{Stage, Lawful, count_of, start_of, stop_of}
@@ -56,15 +56,15 @@ no_from FF h t f r c q w =
     first_alone h t q (subst (λ x. Before h x q) e w)
 
 -- what the lemmas before ask of a route
-pub tied : (ss : List Stage) → 0 < length ss → All Lawful ss → Tied (route_of ss)
+pub tied : (ss : List Stage) → 0 < length ss → AllByRecursion Lawful ss → Tied (route_of ss)
 tied [] h ls = absurd (omega arith)
 tied (s ∷ ss) h ls = route_tied s ss ls.0 ls.1
 
-pub clock : (ss : List Stage) → 0 < length ss → All Lawful ss → Clock (route_of ss) (begin_of ss) (finish_of ss)
+pub clock : (ss : List Stage) → 0 < length ss → AllByRecursion Lawful ss → Clock (route_of ss) (begin_of ss) (finish_of ss)
 clock [] h ls = absurd (omega arith)
 clock (s ∷ ss) h ls = route_clock s ss ls.0 ls.1
 
-module _ (m : Semantics) (ss : List Stage) (some : 0 < length ss) (ls : All Lawful ss) where
+module _ (m : Semantics) (ss : List Stage) (some : 0 < length ss) (ls : AllByRecursion Lawful ss) where
   -- The search begins at the first block, with nothing found.
   pub visit_start : (p : ℕ) → Visit m ss (first_block (route_of ss)) p 0 0 0
   visit_start p =
@@ -127,12 +127,12 @@ module _ (m : Semantics) (ss : List Stage) (some : 0 < length ss) (ls : All Lawf
         still-low v.origin_low
 
 -- The end of the search: the first block moved by a span has been visited.
-pub visit_finish : (m : Semantics) (ss : List Stage) → 0 < length ss → All Lawful ss → (span : ℕ) → Common span ss → (f p d o l : ℕ) → Visit m ss f p d o l → first_block (route_of ss) + instances_in span (first_stage ss) < f → Figure m ss d (shown_predecessor m o) (witness_to ss l)
+pub visit_finish : (m : Semantics) (ss : List Stage) → 0 < length ss → AllByRecursion Lawful ss → (span : ℕ) → Common span ss → (f p d o l : ℕ) → Visit m ss f p d o l → first_block (route_of ss) + instances_in span (first_stage ss) < f → Figure m ss d (shown_predecessor m o) (witness_to ss l)
 visit_finish m [] some ls span c f p d o l v far = absurd (omega arith)
 visit_finish m (s ∷ ss) some ls span c f p d o l v far = best_finish s ss ls.0 ls.1 m span c f d o l v.best far
 
 -- and there are steps back from the answered last instance to the first stage
-pub visit_written : (m : Semantics) (ss : List Stage) → 0 < length ss → All Lawful ss → (span : ℕ) → Common span ss → (f p d o l : ℕ) → Visit m ss f p d o l → first_block (route_of ss) + instances_in span (first_stage ss) < f → 0 < (route_of ss).back (l + 1)
+pub visit_written : (m : Semantics) (ss : List Stage) → 0 < length ss → AllByRecursion Lawful ss → (span : ℕ) → Common span ss → (f p d o l : ℕ) → Visit m ss f p d o l → first_block (route_of ss) + instances_in span (first_stage ss) < f → 0 < (route_of ss).back (l + 1)
 visit_written m [] some ls span c f p d o l v far = absurd (omega arith)
 visit_written m (s ∷ ss) some ls span c f p d o l v far =
     let b = best_all (route_of (s ∷ ss)) (route_tied s ss ls.0 ls.1) (begin_of (s ∷ ss)) (finish_of (s ∷ ss)) (instances_in span s)
@@ -141,13 +141,13 @@ visit_written m (s ∷ ss) some ls span c f p d o l v far =
     omega (arith, takes_joins s ss ls.0 ls.1 m b.first l o b.takes)
 
 -- The times of a block that is visited.
-pub visit_in_spans : (ss : List Stage) → 0 < length ss → length ss ≤ 16 → All Lawful ss → (span : ℕ) → Common span ss → (f : ℕ) → f ≤ first_block (route_of ss) + instances_in span (first_stage ss) → InSpans ss span f
+pub visit_in_spans : (ss : List Stage) → 0 < length ss → length ss ≤ 16 → AllByRecursion Lawful ss → (span : ℕ) → Common span ss → (f : ℕ) → f ≤ first_block (route_of ss) + instances_in span (first_stage ss) → InSpans ss span f
 visit_in_spans [] some few ls span c f near = absurd (omega arith)
 visit_in_spans (s ∷ ss) some few ls span c f near = in_spans s ss ls.0 ls.1 span c (omega arith) f near
 
 -- Small facts that the steps of the code ask for.
 
-module _ (ss : List Stage) (some : 0 < length ss) (ls : All Lawful ss) where
+module _ (ss : List Stage) (some : 0 < length ss) (ls : AllByRecursion Lawful ss) where
   -- there is a step back from every step ahead, so one can be taken off it
   pub back_there : (i : ℕ) → i < (route_of ss).back ((route_of ss).ahead i + 1)
   back_there i = top_positive (route_of ss) (tied ss some ls) i
@@ -170,7 +170,7 @@ pub number_small : (s : Stage) → Lawful s → (i t : ℕ) → start_of s i ≤
 number_small s l i t h = omega (arith, (in_order s l).number_below_start i)
 
 -- One step ahead from stage k to stage k + 1, and its time, counted in spans from the time t at which the walk began.
-pub walk_ahead : (ss : List Stage) → All Lawful ss → (span : ℕ) → Common span ss → (d : Stage) (k x t : ℕ) → k + 1 < length ss → start_of (get_or ss k d) x ≤ t + k * (2 * span) → start_of (get_or ss (k + 1) d) (ahead_of (get_or ss k d) (get_or ss (k + 1) d) x) ≤ t + (k + 1) * (2 * span)
+pub walk_ahead : (ss : List Stage) → AllByRecursion Lawful ss → (span : ℕ) → Common span ss → (d : Stage) (k x t : ℕ) → k + 1 < length ss → start_of (get_or ss k d) x ≤ t + k * (2 * span) → start_of (get_or ss (k + 1) d) (ahead_of (get_or ss k d) (get_or ss (k + 1) d) x) ≤ t + (k + 1) * (2 * span)
 walk_ahead ss ls span c d k x t h low =
     let short = all_short span c.positive ss ls c.whole in
     omega (
@@ -180,6 +180,6 @@ walk_ahead ss ls span c d k x t h low =
     )
 
 -- One step back from instance j of stage k + 1 to stage k: it is no later.
-pub walk_back : (ss : List Stage) → All Lawful ss → (d : Stage) (k j : ℕ) → k + 1 < length ss → 0 < back_of (get_or ss k d) (get_or ss (k + 1) d) (j + 1) → start_of (get_or ss k d) (back_of (get_or ss k d) (get_or ss (k + 1) d) (j + 1) - 1) ≤ start_of (get_or ss (k + 1) d) j
+pub walk_back : (ss : List Stage) → AllByRecursion Lawful ss → (d : Stage) (k j : ℕ) → k + 1 < length ss → 0 < back_of (get_or ss k d) (get_or ss (k + 1) d) (j + 1) → start_of (get_or ss k d) (back_of (get_or ss k d) (get_or ss (k + 1) d) (j + 1) - 1) ≤ start_of (get_or ss (k + 1) d) j
 walk_back ss ls d k j h some =
     back_earlier (get_or ss k d) (get_or ss (k + 1) d) (All-get_or Lawful ss k d (omega arith) ls) (All-get_or Lawful ss (k + 1) d h ls) j some

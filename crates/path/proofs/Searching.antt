@@ -1,7 +1,7 @@
 -- The search over rows in memory, turn by turn as the code takes it.
 -- Assumes nothing.
 use Rattle.std.proofs.Common.{◌≡◌, ℕ, ◌+◌, ◌-◌, ◌*◌, ◌/◌, ◌^◌, ◌<◌, ◌≤◌, List, [], ◌∷◌, length, get_or, sym, ap, ◌∙◌, subst, ⊎_elim, arith}
-use Rattle.std.specs.List.{AllByRecursion as All}
+use Rattle.std.specs.List.{AllByRecursion}
 use Rattle.std.proofs.lemmas.Bool.{cases_lt}
 use Rattle.stage.specs.Stages.{Stage, Lawful, start_of, stop_of}
 use Rattle.stage.specs.declared.lawful.LawfulRow.{LawfulRow}
@@ -39,11 +39,11 @@ pub finish_read : (rows : List LawfulRow) (b : LawfulRow) (l j : ℕ) → 0 < le
 finish_read rows b l j some e same =
     ap (stop_of (stage_in b)) same ∙ ap (λ s. stop_of s j) (sym (last_read rows b some e))
 
-first_lawful : (ss : List Stage) → 0 < length ss → All Lawful ss → Lawful (first_stage ss)
+first_lawful : (ss : List Stage) → 0 < length ss → AllByRecursion Lawful ss → Lawful (first_stage ss)
 first_lawful [] h ls = absurd (omega arith)
 first_lawful (s ∷ ss) h ls = ls.0
 
-last_lawful : (ss : List Stage) → 0 < length ss → All Lawful ss → Lawful (last_stage ss)
+last_lawful : (ss : List Stage) → 0 < length ss → AllByRecursion Lawful ss → Lawful (last_stage ss)
 last_lawful [] h ls = absurd (omega arith)
 last_lawful (s ∷ ss) h ls = last_holds Lawful s ss ls.0 ls.1
 

@@ -1,7 +1,7 @@
 -- Lawful stages and the hops between them repeat after any common multiple of the cycles.
 -- Assumes nothing.
 use Rattle.std.proofs.Common.{◌≡◌, ℕ, zero, suc, ◌+◌, ◌-◌, ◌*◌, ◌/◌, ◌%◌, ◌<◌, ◌≤◌, List, [], ◌∷◌, sym, refl, ap, ◌∙◌, subst, ⊎_elim, mul-le-mul_right, mod-lt, div-lt_iff_lt-mul, div-add-mod', arith}
-use Rattle.std.specs.List.{AllByRecursion as All}
+use Rattle.std.specs.List.{AllByRecursion}
 use Rattle.std.proofs.lemmas.Bool.{cases_lt}
 use Rattle.stage.specs.Stages.{Stage, Lawful, count_of, start_of, stop_of}
 use Rattle.stage.proofs.Order.{in_order}
@@ -109,22 +109,22 @@ module _ (w r : Stage) (lw : Lawful w) (lr : Lawful r) where
     hop-moves i = ap (count_below (start_of r)) (ready-moves i) ∙ sym (below-moves (ready_of w r i))
 
 -- all of the route
-pub along_moves : (s : Stage) (ss : List Stage) → Lawful s → All Lawful ss → (span : ℕ) → Whole span s → All (Whole span) ss → (i : ℕ) → (hop_along (hops_from s ss)).ahead (i + instances_in span s) ≡ (hop_along (hops_from s ss)).ahead i + instances_in span (last_or s ss)
+pub along_moves : (s : Stage) (ss : List Stage) → Lawful s → AllByRecursion Lawful ss → (span : ℕ) → Whole span s → AllByRecursion (Whole span) ss → (i : ℕ) → (hop_along (hops_from s ss)).ahead (i + instances_in span s) ≡ (hop_along (hops_from s ss)).ahead i + instances_in span (last_or s ss)
 along_moves s [] l ls span w ws i = refl
 along_moves s (r ∷ ss) l ls span w ws i =
     ap (hop_along (hops_from r ss)).ahead (hop-moves s r l ls.0 span w ws.0 i)
     ∙ along_moves r ss ls.0 ls.1 span ws.0 ws.1 (ahead_of s r i)
 
-pub along_later : (s : Stage) (ss : List Stage) → Lawful s → All Lawful ss → (i : ℕ) → start_of s i ≤ start_of (last_or s ss) ((hop_along (hops_from s ss)).ahead i)
+pub along_later : (s : Stage) (ss : List Stage) → Lawful s → AllByRecursion Lawful ss → (i : ℕ) → start_of s i ≤ start_of (last_or s ss) ((hop_along (hops_from s ss)).ahead i)
 along_later s [] l ls i = omega arith
 along_later s (r ∷ ss) l ls i =
     omega (arith, start_ready s r l ls.0 i, ahead_ready s r l ls.0 i, along_later r ss ls.0 ls.1 (ahead_of s r i))
 
-pub last_holds : (P : Stage → Type 0) (s : Stage) (ss : List Stage) → P s → All P ss → P (last_or s ss)
+pub last_holds : (P : Stage → Type 0) (s : Stage) (ss : List Stage) → P s → AllByRecursion P ss → P (last_or s ss)
 last_holds P s [] h hs = h
 last_holds P s (r ∷ ss) h hs = last_holds P r ss hs.0 hs.1
 
-module _ (s : Stage) (ss : List Stage) (l : Lawful s) (ls : All Lawful ss) where
+module _ (s : Stage) (ss : List Stage) (l : Lawful s) (ls : AllByRecursion Lawful ss) where
   last_lawful : Lawful (last_or s ss)
   last_lawful = last_holds Lawful s ss l ls
 

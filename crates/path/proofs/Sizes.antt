@@ -1,7 +1,7 @@
 -- How late the times are that a search meets.
 -- Assumes nothing.
 use Rattle.std.proofs.Common.{◌≡◌, ℕ, ◌+◌, ◌-◌, ◌*◌, ◌^◌, ◌<◌, ◌≤◌, List, [], ◌∷◌, length, ap, ⊎_elim, mul-le-mul_right, arith}
-use Rattle.std.specs.List.{AllByRecursion as All}
+use Rattle.std.specs.List.{AllByRecursion}
 use Rattle.std.proofs.lemmas.Bool.{cases_lt}
 use Rattle.stage.specs.Stages.{Stage, Lawful, start_of, stop_of}
 use Rattle.stage.proofs.Order.{in_order}
@@ -43,12 +43,12 @@ abbrev pub Short : ℕ → Stage → Type 0
 Short span s = s.cycle ≤ span
 
 -- along a route
-pub along_soon : (s : Stage) (ss : List Stage) → Lawful s → All Lawful ss → (span : ℕ) → Short span s → All (Short span) ss → (i : ℕ) → start_of (last_or s ss) ((hop_along (hops_from s ss)).ahead i) ≤ start_of s i + length ss * (2 * span)
+pub along_soon : (s : Stage) (ss : List Stage) → Lawful s → AllByRecursion Lawful ss → (span : ℕ) → Short span s → AllByRecursion (Short span) ss → (i : ℕ) → start_of (last_or s ss) ((hop_along (hops_from s ss)).ahead i) ≤ start_of s i + length ss * (2 * span)
 along_soon s [] l ls span h hs i = omega arith
 along_soon s (r ∷ ss) l ls span h hs i =
     omega (arith, ahead_soon_span s r l ls.0 span h hs.0 i, along_soon r ss ls.0 ls.1 span hs.0 hs.1 (ahead_of s r i))
 
-pub all_short : (span : ℕ) → 0 < span → (ss : List Stage) → All Lawful ss → All (Whole span) ss → All (Short span) ss
+pub all_short : (span : ℕ) → 0 < span → (ss : List Stage) → AllByRecursion Lawful ss → AllByRecursion (Whole span) ss → AllByRecursion (Short span) ss
 all_short span p [] ls ws = tt
 all_short span p (s ∷ ss) ls ws = (cycle-in-span s ls.0 span ws.0 p, all_short span p ss ls.1 ws.1)
 
@@ -62,7 +62,7 @@ pub record InSpans (ss : List Stage) (span f : ℕ) : Type 0 where
   pub stop_after : stop_of (last_stage ss) ((route_of ss).ahead (f + 1)) ≤ 64 * span
   pub next : start_of (first_stage ss) (next_block (route_of ss) f) ≤ 63 * span
 
-module _ (s : Stage) (ss : List Stage) (l : Lawful s) (ls : All Lawful ss) (span : ℕ) (c : Common span (s ∷ ss)) (few : length ss ≤ 15) where
+module _ (s : Stage) (ss : List Stage) (l : Lawful s) (ls : AllByRecursion Lawful ss) (span : ℕ) (c : Common span (s ∷ ss)) (few : length ss ≤ 15) where
   far-enough : length ss * (2 * span) ≤ 30 * span
   far-enough = omega (arith, mul-le-mul_right (2 * span) few)
 

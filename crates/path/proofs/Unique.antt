@@ -2,7 +2,7 @@
 -- Assumes nothing.
 use Rattle.std.proofs.Common.{◌≡◌, ℕ, zero, suc, ◌+◌, ◌-◌, ◌*◌, ◌/◌, ◌%◌, ◌<◌, List, [], ◌∷◌, length, Option, sym, refl, ap, ◌∙◌, subst, ⊎_elim, mul-le-mul_right, mul_assoc, div-add-mod', arith}
 use native.Mathlib.Nat.{mul-mod_left, mul-mod_right}
-use Rattle.std.specs.List.{AllByRecursion as All}
+use Rattle.std.specs.List.{AllByRecursion}
 use Rattle.std.proofs.lemmas.Bool.{cases_lt}
 use Rattle.stage.specs.Stages.{Stage, Lawful, start_of, stop_of}
 use Rattle.path.specs.declared.semantics.Semantics.{Semantics}
@@ -97,7 +97,7 @@ visit_all LF h t begin finish k bound = visit-first LF h t begin finish k bound 
 visit_all FL h t begin finish k bound = visit-second FL h t begin finish k bound (first_alone h t)
 visit_all FF h t begin finish k bound = visit-second FF h t begin finish k bound (first_alone h t)
 
-figure_some_span : (m : Semantics) (s : Stage) (ss : List Stage) → Lawful s → All Lawful ss → (span : ℕ) → Common span (s ∷ ss) → Answer m (s ∷ ss)
+figure_some_span : (m : Semantics) (s : Stage) (ss : List Stage) → Lawful s → AllByRecursion Lawful ss → (span : ℕ) → Common span (s ∷ ss) → Answer m (s ∷ ss)
 figure_some_span m s ss l ls span c =
     let v = visit_all m (route_of (s ∷ ss)) (route_tied s ss l ls) (start_of s) (stop_of (last_or s ss)) (route_clock s ss l ls)
     (first_block (route_of (s ∷ ss)) + instances_in span s) in
@@ -119,11 +119,11 @@ whole_more s k span w =
     let e : k * span ≡ k * (span / s.cycle) * s.cycle = ap (λ x. k * x) q ∙ sym (mul_assoc k (span / s.cycle) s.cycle) in
     subst (λ x. x % s.cycle ≡ 0) (sym e) (mul-mod_left (k * (span / s.cycle)) s.cycle)
 
-all_whole_more : (ss : List Stage) (k span : ℕ) → All (Whole span) ss → All (Whole (k * span)) ss
+all_whole_more : (ss : List Stage) (k span : ℕ) → AllByRecursion (Whole span) ss → AllByRecursion (Whole (k * span)) ss
 all_whole_more [] k span w = tt
 all_whole_more (s ∷ ss) k span w = (whole_more s k span w.0, all_whole_more ss k span w.1)
 
-product_common : (ss : List Stage) → All Lawful ss → Common (product ss) ss
+product_common : (ss : List Stage) → AllByRecursion Lawful ss → Common (product ss) ss
 unfolding product
 product_common [] ls = record { positive = omega arith; whole = tt }
 product_common (s ∷ ss) ls =
@@ -133,6 +133,6 @@ product_common (s ∷ ss) ls =
       whole = (mul-mod_right s.cycle (product ss), all_whole_more ss s.cycle (product ss) c.whole);
     }
 
-pub figure_some : (m : Semantics) (ss : List Stage) → 0 < length ss → All Lawful ss → Answer m ss
+pub figure_some : (m : Semantics) (ss : List Stage) → 0 < length ss → AllByRecursion Lawful ss → Answer m ss
 figure_some m [] h ls = absurd (omega arith)
 figure_some m (s ∷ ss) h ls = figure_some_span m s ss ls.0 ls.1 (product (s ∷ ss)) (product_common (s ∷ ss) ls)

@@ -1,7 +1,7 @@
 -- The steps along a route, as the loops of the code take them.
 -- Assumes nothing.
 use Rattle.std.proofs.Common.{◌≡◌, ℕ, ◌+◌, ◌-◌, ◌*◌, ◌^◌, ◌<◌, ◌≤◌, ◌≢◌, List, length, get_or, take, drop, set, sym, refl, ap, ◌∙◌, subst, ⊎_elim, arith}
-use Rattle.std.specs.List.{AllByRecursion as All}
+use Rattle.std.specs.List.{AllByRecursion}
 use Rattle.std.proofs.ByRecursion.{All-get_or}
 use Rattle.std.proofs.lemmas.List.{length-take-le, get_or-take, get_or-set_same, get_or-set_other}
 use Rattle.std.proofs.lemmas.Bool.{cases_lt}
@@ -20,7 +20,7 @@ pub record Walked (ss : List Stage) (i k x : ℕ) : Type 0 where
   pub same : (route_of (drop k ss)).ahead x ≡ (route_of ss).ahead i
   pub early : start_of (get_or ss k no_stage) x ≤ 2 ^ 36 + k * 200_000_000
 
-module _ (ss : List Stage) (ls : All Lawful ss) (i : ℕ) where
+module _ (ss : List Stage) (ls : AllByRecursion Lawful ss) (i : ℕ) where
   pub walked_none : start_of (first_stage ss) i < 2 ^ 36 → Walked ss i 0 i
   walked_none h = record { same = refl; early = omega (arith, ap (λ s. start_of s i) (first_stage_at ss)) }
 
@@ -41,7 +41,7 @@ pub record Traced (ss : List Stage) (j k x : ℕ) : Type 0 where
   pub same : x + 1 ≡ (route_of (drop k ss)).back (j + 1)
   pub early : start_of (get_or ss k no_stage) x < 2 ^ 40
 
-module _ (ss : List Stage) (ls : All Lawful ss) (j : ℕ) (there : 0 < (route_of ss).back (j + 1)) where
+module _ (ss : List Stage) (ls : AllByRecursion Lawful ss) (j : ℕ) (there : 0 < (route_of ss).back (j + 1)) where
   pub traced_last : (k : ℕ) → length ss ≡ k + 1 → start_of (last_stage ss) j < 2 ^ 40 → Traced ss j k j
   traced_last k h low =
       record { same = sym (back_last ss k (j + 1) h); early = omega (arith, ap (λ s. start_of s j) (last_stage_at ss k h)) }

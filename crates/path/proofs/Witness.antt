@@ -1,7 +1,7 @@
 -- The witness, entry by entry.
 -- Assumes nothing.
 use Rattle.std.proofs.Common.{◌≡◌, ℕ, zero, suc, ◌+◌, ◌-◌, ◌<◌, ◌≤◌, List, [], ◌∷◌, length, get_or, drop, sym, refl, ap, ◌∙◌, subst, add-one, arith}
-use Rattle.std.specs.List.{AllByRecursion as All}
+use Rattle.std.specs.List.{AllByRecursion}
 use Rattle.std.proofs.lemmas.List.{same_lists, get_or_default}
 use Rattle.path.specs.Timed.{first_or, first_of}
 use Rattle.path.specs.Steps.{Hop, hop_here, hop_along, trace_back}
@@ -50,19 +50,19 @@ trace_from_steps (h ∷ hs) j (i ∷ p) n e steps =
 
 -- By the steps back from j: entry k is one less than what the hops from k on lead back to.
 
-pub backs_positive : (hs : List Hop) → All Tied hs → (c k : ℕ) → 0 < (hop_along hs).back c → 0 < (hop_along (drop k hs)).back c
+pub backs_positive : (hs : List Hop) → AllByRecursion Tied hs → (c k : ℕ) → 0 < (hop_along hs).back c → 0 < (hop_along (drop k hs)).back c
 backs_positive hs t c zero l = l
 backs_positive [] t c (suc k) l = l
 backs_positive (h ∷ hs) t c (suc k) l = backs_positive hs t.1 c k (positive_inside h t.0 ((hop_along hs).back c) l)
 
-pub trace_backs : (hs : List Hop) → All Tied hs → (j k : ℕ) → k ≤ length hs → 0 < (hop_along hs).back (j + 1) → get_or (trace_back hs j) k 0 + 1 ≡ (hop_along (drop k hs)).back (j + 1)
+pub trace_backs : (hs : List Hop) → AllByRecursion Tied hs → (j k : ℕ) → k ≤ length hs → 0 < (hop_along hs).back (j + 1) → get_or (trace_back hs j) k 0 + 1 ≡ (hop_along (drop k hs)).back (j + 1)
 unfolding trace_back
 trace_backs hs t j zero h l = ap (λ x. x + 1) (sym (first_get_or 0 (trace_back hs j))) ∙ trace_first hs t j l
 trace_backs [] t j (suc k) h l = absurd (omega arith)
 trace_backs (hp ∷ hs) t j (suc k) h l =
     trace_backs hs t.1 j k (omega arith) (positive_inside hp t.0 ((hop_along hs).back (j + 1)) l)
 
-pub trace_from_backs : (hs : List Hop) → All Tied hs → (j : ℕ) (p : List ℕ) → 0 < (hop_along hs).back (j + 1) → length p ≡ length hs + 1 → ((k : ℕ) → k ≤ length hs → get_or p k 0 + 1 ≡ (hop_along (drop k hs)).back (j + 1)) → p ≡ trace_back hs j
+pub trace_from_backs : (hs : List Hop) → AllByRecursion Tied hs → (j : ℕ) (p : List ℕ) → 0 < (hop_along hs).back (j + 1) → length p ≡ length hs + 1 → ((k : ℕ) → k ≤ length hs → get_or p k 0 + 1 ≡ (hop_along (drop k hs)).back (j + 1)) → p ≡ trace_back hs j
 trace_from_backs hs t j p l n at =
     same_lists p (trace_back hs j) (n ∙ sym (trace_length hs j))
     (λ k d h. get_or_default p k d 0 h

@@ -1,7 +1,7 @@
 -- What holds of every figure.
 -- Assumes nothing.
 use Rattle.std.specs.Prelude.{◌≡◌, ℕ, ◌<◌, List, length, Option}
-use Rattle.std.specs.List.{AllByRecursion as All}
+use Rattle.std.specs.List.{AllByRecursion}
 use Rattle.stage.specs.Stages.{Stage, Lawful}
 use Rattle.path.specs.declared.semantics.Semantics.{Semantics}
 use Rattle.path.specs.Figures.{Figure}
@@ -9,7 +9,7 @@ use Rattle.path.specs.Samples.{Holds, samples}
 
 -- the worked cases
 abbrev pub SamplesHold : Type 0
-SamplesHold = All Holds samples
+SamplesHold = AllByRecursion Holds samples
 
 -- stages have a figure under a semantics
 pub record Answer (m : Semantics) (ss : List Stage) : Type 0 where
@@ -26,7 +26,7 @@ pub record SameAnswer (d e : ℕ) (p q : Option ℕ) (v w : List ℕ) : Type 0 w
 
 -- Lawful stages, if there are any, have a figure under each semantics.
 abbrev pub SomeFigure : Type 0
-SomeFigure = (m : Semantics) (ss : List Stage) → 0 < length ss → All Lawful ss → Answer m ss
+SomeFigure = (m : Semantics) (ss : List Stage) → 0 < length ss → AllByRecursion Lawful ss → Answer m ss
 
 -- And they have no other.
 abbrev pub OnlyFigure : Type 0

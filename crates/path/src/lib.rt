@@ -1,4 +1,6 @@
 // Timed paths along stages, and the largest delay under each of the four ways to count it.
+#![tactic(auto)]
+
 pub mod delay;
 mod hop;
 mod largest;

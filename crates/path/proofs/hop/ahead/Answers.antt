@@ -7,8 +7,8 @@ use Rattle.path.proofs.Stepping.{stop_soon, ahead_waiting, ahead_stopped}
 use Rattle.path.proofs.hop.ahead.Goals as goal
 use Rattle.path.proofs.hop.ahead.Goals.{then-waits, else-waits}
 
-pub stop-of-ready-requires : goal.stop-of-ready-requires
-stop-of-ready-requires c = omega (arith, stop_soon (stage_in c.args.writer.now) (laws_in c.args.writer.now) c.args.i)
+pub stop_of-ready-requires : goal.stop_of-ready-requires
+stop_of-ready-requires c = omega (arith, stop_soon (stage_in c.args.writer.now) (laws_in c.args.writer.now) c.args.i)
 
 pub returns : goal.returns
 returns c =
@@ -19,8 +19,8 @@ returns c =
     elim c.if-waits.branch [
       | then-waits v ↦
           ahead_waiting (stage_in w) (stage_in r) (laws_in w) (laws_in r) c.args.i c.next.result (sym v.if-waits.ensures)
-          (from (start_of (stage_in w) c.args.i) (v.ready-is ∙ v.start-of-ready.ensures))
+          (from (start_of (stage_in w) c.args.i) (v.ready-is ∙ v.start_of-ready.ensures))
       | else-waits v ↦
           ahead_stopped (stage_in w) (stage_in r) (laws_in w) (laws_in r) c.args.i c.next.result (sym v.if-waits.ensures)
-          (from (stop_of (stage_in w) c.args.i) (v.ready-is ∙ v.stop-of-ready.ensures))
+          (from (stop_of (stage_in w) c.args.i) (v.ready-is ∙ v.stop_of-ready.ensures))
     ]

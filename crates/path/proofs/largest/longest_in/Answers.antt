@@ -3,8 +3,8 @@ use Rattle.path.specs.Steps.{from_of, end_in}
 use Rattle.path.proofs.Searching.{begin_read, finish_read}
 use Rattle.path.proofs.largest.longest_in.Goals as goal
 
-pub start-of-start-requires : goal.start-of-start-requires
-start-of-start-requires c =
+pub start_of-start-requires : goal.start_of-start-requires
+start_of-start-requires c =
     omega (
       arith,
       begin_read c.args.rows.now c.index-rows-0.result c.origin-origin.result
@@ -13,8 +13,8 @@ start-of-start-requires c =
       c.requires.early,
     )
 
-pub stop-of-stop-requires : goal.stop-of-stop-requires
-stop-of-stop-requires c =
+pub stop_of-stop-requires : goal.stop_of-stop-requires
+stop_of-stop-requires c =
     omega (
       arith,
       finish_read c.args.rows.now c.index-rows-rows.result c.end-last.result
@@ -22,8 +22,8 @@ stop-of-stop-requires c =
       c.requires.early,
     )
 
-pub overflow-sub-result : goal.overflow-sub-result
-overflow-sub-result c =
+pub overflow_sub-result : goal.overflow_sub-result
+overflow_sub-result c =
     omega (
       arith,
       begin_read c.args.rows.now c.index-rows-0.result c.origin-origin.result
@@ -31,8 +31,8 @@ overflow-sub-result c =
       finish_read c.args.rows.now c.index-rows-rows.result c.end-last.result
           (end_in c.args.semantics c.args.near c.args.far) c.requires.some c.index-rows-rows.is c.end-last.ensures,
       c.requires.taking,
-      c.start-of-start.ensures,
-      c.stop-of-stop.ensures,
+      c.start_of-start.ensures,
+      c.stop_of-stop.ensures,
     )
 
 pub returns : goal.returns
@@ -44,7 +44,7 @@ returns c =
     finish_read c.args.rows.now c.index-rows-rows.result c.end-last.result
     (end_in c.args.semantics c.args.near c.args.far) c.requires.some c.index-rows-rows.is c.end-last.ensures in
     record {
-      delay = omega (arith, c.start-of-start.ensures, c.stop-of-stop.ensures);
+      delay = omega (arith, c.start_of-start.ensures, c.stop_of-stop.ensures);
       origin = c.origin-origin.ensures;
       last = c.end-last.ensures;
     }

@@ -24,8 +24,8 @@ first : (c : goal.After-back-first) → c.back-first.result ≡ first_block (rou
 first c =
     first_is c.args.rows.now c.requires.some c.ahead-near.result c.back-first.result c.ahead-near.ensures c.back-first.ensures
 
-pub last-block-end-requires : goal.last-block-end-requires
-last-block-end-requires c =
+pub last_block-end-requires : goal.last_block-end-requires
+last_block-end-requires c =
     record {
       some = c.requires.some;
       small = omega (arith, first c, last_block_small c.args.rows.now c.requires.some c.requires.few c.args.span c.requires.common c.requires.short);
@@ -38,11 +38,11 @@ loop-block-init c =
       reached-start c.args.rows.now c.requires.some c.requires.few c.args.span c.requires.common c.requires.short c.args.semantics
           c.ahead-near.result c.back-first.result c.ahead-near.ensures c.back-first.ensures,
       begin,
-      c.last-block-end.ensures ∙ ap (λ x. x + instances_in c.args.span (first_stage (stages_of c.args.rows.now))) begin,
+      c.last_block-end.ensures ∙ ap (λ x. x + instances_in c.args.span (first_stage (stages_of c.args.rows.now))) begin,
     )
 
-pub overflow-add-block : goal.overflow-add-block
-overflow-add-block c =
+pub overflow_add-block : goal.overflow_add-block
+overflow_add-block c =
     let small = last_block_small c.args.rows.now c.requires.some c.requires.few c.args.span c.requires.common c.requires.short in
     let low : c.loop-block.block < 2 ^ 40 = omega (arith, c.loop-block.invariant.2) in
     search rules
@@ -55,8 +55,8 @@ ahead-far-requires c =
       early = after_early c.args.rows.now c.requires.some c.requires.few c.args.span c.requires.common c.requires.short c.loop-block.block (omega (arith, c.loop-block.invariant.2));
     }
 
-pub longest-in-found-requires : goal.longest-in-found-requires
-longest-in-found-requires c =
+pub longest_in-found-requires : goal.longest_in-found-requires
+longest_in-found-requires c =
     record {
       some = c.requires.some;
       «open» = opens c.args.rows.now c.requires.some c.requires.few c.args.span c.requires.common c.requires.short c.args.semantics
@@ -105,18 +105,18 @@ loop-block-preserved c = (
         c.loop-block.block c.loop-block.before c.loop-block.near c.loop-block.best.delay c.loop-block.best.origin
         c.loop-block.best.last c.ahead-far.result c.back-block.result c.loop-block.invariant.0 (omega (arith, c.loop-block.invariant.2))
         c.ahead-far.ensures c.back-block.ensures
-        w.longest-in-found.result.delay w.longest-in-found.result.origin w.longest-in-found.result.last
+        w.longest_in-found.result.delay w.longest_in-found.result.origin w.longest_in-found.result.last
         (subst (λ x. Counting c.args.semantics x c.loop-block.block) c.loop-block.invariant.1 (w.if-counts.ensures.sound tt))
-        w.longest-in-found.ensures.delay w.longest-in-found.ensures.origin w.longest-in-found.ensures.last w.if-found-best.true)
+        w.longest_in-found.ensures.delay w.longest_in-found.ensures.origin w.longest_in-found.ensures.last w.if-found-best.true)
     | then-counts+else-found-best w ↦
         subst (Next-with c) (sym w.best-is)
         (reached-same c.args.rows.now c.requires.some c.requires.few c.args.span c.requires.common c.requires.short c.args.semantics
         c.loop-block.block c.loop-block.before c.loop-block.near c.loop-block.best.delay c.loop-block.best.origin
         c.loop-block.best.last c.ahead-far.result c.back-block.result c.loop-block.invariant.0 (omega (arith, c.loop-block.invariant.2))
         c.ahead-far.ensures c.back-block.ensures
-        w.longest-in-found.result.delay
+        w.longest_in-found.result.delay
         (subst (λ x. Counting c.args.semantics x c.loop-block.block) c.loop-block.invariant.1 (w.if-counts.ensures.sound tt))
-        w.longest-in-found.ensures.delay w.if-found-best.false)
+        w.longest_in-found.ensures.delay w.if-found-best.false)
     | else-counts w ↦
         subst (Next-with c) (sym w.best-is)
         (reached-skip c.args.rows.now c.requires.some c.requires.few c.args.span c.requires.common c.requires.short c.args.semantics
