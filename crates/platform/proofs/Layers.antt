@@ -5,7 +5,7 @@ use native.Mathlib.Nat.{add-mod_right}
 use Rattle.std.proofs.lemmas.Bool.{cases_lt}
 use Rattle.stage.specs.Stages.{Stage, Lawful, count_of, mark_of, start_of, stop_of}
 use Rattle.stage.proofs.Order.{in_order}
-use Rattle.platform.specs.Phases.{before, staying, phase_stage, Runs, time_below, EveryPhase}
+use Rattle.platform.specs.Phases.{staying, phase_stage, Runs, time_below, EveryPhase}
 use Rattle.platform.specs.Thins.{thin_stage, EveryThinning}
 use Rattle.platform.specs.LayerSoundness.{thin_count, thin_start, thin_stop, start_later, stop_later, mark_start, mark_stop, before_early, phase_count, phase_start, phase_stop, shift_low, staying_within, leaves, phase_lawful}
 

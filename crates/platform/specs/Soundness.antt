@@ -1,11 +1,11 @@
 -- The writers' proofs that their platforms are sound.
 -- Assumes nothing.
-use Rattle.std.specs.Prelude.{◌≡◌, ℕ, zero, suc, ◌+◌, ◌-◌, ◌<◌, ◌≤◌, Bool, true, false, cond, ◌&&◌, List, [], ◌∷◌, IfSome, Some, None, Option, nat_le, nat_lt, refl}
-use Rattle.std.proofs.Common.{sym, ap, ◌∙◌, subst, arith}
+use Rattle.std.specs.Prelude.{◌≡◌, ℕ, zero, suc, ◌+◌, ◌<◌, ◌≤◌, true, cond, List, IfSome, Some, None, Option, nat_le, nat_lt}
+use Rattle.std.proofs.Common.{ap, arith}
 use Rattle.std.specs.Option.{option_map}
 use Rattle.std.specs.List.{slice_get}
-use Rattle.std.proofs.lemmas.Bool.{and_parts, leb-true, ltb-true, ltb-false, le-ltb, cond_both, cond-false}
-use Rattle.stage.specs.Stages.{Stage, Lawful, count_of, mark_of}
+use Rattle.std.proofs.lemmas.Bool.{and_parts, leb-true, ltb-true, le-ltb, cond_both, cond-false}
+use Rattle.stage.specs.Stages.{Lawful, mark_of}
 use Rattle.platform.specs.declared.record.Record.{Record}
 use Rattle.platform.specs.Records.{in_range, period_in_range, offset_in_range, response_in_range, record_stage, metronome_record, metronome_stage}
 use Rattle.platform.specs.Platforms.{Sound}

@@ -1,4 +1,6 @@
 // Platforms: what a handheld's maker says of its stages, and the profiles that describe one.
+#![tactic(auto)]
+
 mod instance;
 pub mod laws;
 pub mod metronome;

@@ -14,7 +14,7 @@ pub staying-first-requires : goal.staying-first-requires
 staying-first-requires g c =
     let self = c.args.self.now in
     let p = shaped _ c.args.number _ _ _ (g.P.Platform.sound self.below c.args.number) c.in-Some.ensures in
-    record { shape = p; within = mod-lt _ (omega (arith, p.lawful.cycle_low, p.cycle-is)) }
+    record { shape = p; within = mod-lt _ (omega (arith, p.lawful.cycle_low, p.cycle_is)) }
 
 pub instance-requires : goal.instance-requires
 instance-requires g c =
@@ -29,17 +29,17 @@ place g c =
     let p = shaped _ c.args.number _ _ _ (g.P.Platform.sound self.below c.args.number) c.in-Some.ensures in
     placed self.shift _ _ _ p c.args.a _ c.staying-first.ensures _ _ c.if-a-count.false c.in-Some-instance.ensures
 
-pub overflow-add-result : goal.overflow-add-result
-overflow-add-result g c = let at = place g c in omega arith
+pub overflow_add-result : goal.overflow_add-result
+overflow_add-result g c = let at = place g c in omega arith
 
-pub overflow-sub-result : goal.overflow-sub-result
-overflow-sub-result g c = let at = place g c in omega arith
+pub overflow_sub-result : goal.overflow_sub-result
+overflow_sub-result g c = let at = place g c in omega arith
 
-pub overflow-add-result-2 : goal.overflow-add-result-2
-overflow-add-result-2 g c = let at = place g c in omega arith
+pub overflow_add-result-2 : goal.overflow_add-result-2
+overflow_add-result-2 g c = let at = place g c in omega arith
 
-pub overflow-sub-result-2 : goal.overflow-sub-result-2
-overflow-sub-result-2 g c = let at = place g c in omega arith
+pub overflow_sub-result-2 : goal.overflow_sub-result-2
+overflow_sub-result-2 g c = let at = place g c in omega arith
 
 pub returns : goal.returns
 returns g c =
