@@ -1,9 +1,9 @@
 -- The cycles along a route, noted one by one.
 -- Assumes nothing.
-use Rattle.std.proofs.Common.{◌≡◌, ℕ, zero, suc, ◌+◌, ◌<◌, ◌≤◌, List, [], ◌∷◌, ◌++◌, map, length, get_or, take, set, Some, None, Option, sym, refl, ap, ◌∙◌, subst, arith, length-set}
-use Rattle.std.proofs.lemmas.List.{take_more, take_more_set, take_all, get_or-map, length-map}
+use Rattle.std.proofs.Common.{◌≡◌, ℕ, ◌+◌, ◌<◌, List, [], ◌∷◌, ◌++◌, length, get_or, take, set, Some, None, Option, sym, refl, ap, ◌∙◌, subst, arith}
+use Rattle.std.proofs.lemmas.List.{take_more, take_more_set}
 use Rattle.stage.specs.Stages.{Stage}
-use Rattle.stage.specs.Periods.{Divides, CommonMultiple, IsMacroPeriod}
+use Rattle.stage.specs.Periods.{Divides, IsMacroPeriod}
 use Rattle.stage.proofs.Divisors.{zero_divides}
 use Rattle.platform.specs.Platforms.{described}
 use Rattle.book.specs.Ledgers.{cycle_of, RoutedOrNot}

@@ -72,7 +72,7 @@ put_keeps t u r n x b before d range held =
         → is_some (cond b (update eqb (held_under t.slots) n (Some x) m) (held_under t.slots m)) ≡ true
     still false m p = p
     still true m p =
-        ⊎_elim (λ e. ap is_some (cond-true _ _ _ e)) (λ e. ap is_some (cond-false _ _ _ e) ∙ p) (cases_Bool (eqb m n))
+        ⊎_elim (λ e. ap is_some (cond-true _ _ _ e)) (λ e. ap is_some (cond-false _ _ _ e) ∙ p) (cases_Bool (eqb n m))
 
 -- a number that is not on the route is held no more
 pub remove_keeps : (t u : Table) (r : Route) (n : ℕ) → Keeps t r → on_route (entries_of r) n ≡ false
@@ -85,7 +85,7 @@ remove_keeps t u r n before off d range held =
       held = λ k h low.
           ap is_some
           (held (get_or (entries_of r) k 0)
-          ∙ cond-false _ _ _ (ne_eqb (get_or (entries_of r) k 0) n (off_route (entries_of r) n k off h)))
+          ∙ cond-false _ _ _ (ne_eqb n (get_or (entries_of r) k 0) (λ e. off_route (entries_of r) n k off h (sym e))))
           ∙ before.held k h low;
     }
 

@@ -1,6 +1,6 @@
 -- The row that is copied from a stage's answers means that stage.
 -- Assumes nothing.
-use Rattle.std.proofs.Common.{◌≡◌, ℕ, zero, suc, ◌+◌, ◌-◌, ◌<◌, ◌≤◌, Bool, true, false, cond, ltb, ◌≢◌, List, [], ◌∷◌, map, length, get_or, take, set, is_some, IfSome, Some, None, Option, sym, refl, ap, ◌∙◌, subst, ⊎_elim, arith, get_or-set_other, get_or-set_same, below_more, MatchOption}
+use Rattle.std.proofs.Common.{◌≡◌, ℕ, suc, ◌+◌, ◌-◌, ◌<◌, ◌≤◌, ltb, ◌≢◌, List, [], ◌∷◌, map, length, get_or, take, set, is_some, IfSome, Some, None, Option, sym, refl, ap, ◌∙◌, subst, ⊎_elim, arith, get_or-set_other, get_or-set_same, below_more, MatchOption}
 use Rattle.std.specs.List.{slice_get, range_with_len}
 use Rattle.std.proofs.lemmas.List.{length-map, take-map, get_or-take, length-take-le, map-set}
 use Rattle.std.proofs.lemmas.Option.{slice_get-get_or, slice_get_past as nth_past}
@@ -15,7 +15,7 @@ use Rattle.stage.specs.declared.row.Row.{Row}
 use Rattle.stage.specs.declared.lawful.LawfulRow.{LawfulRow}
 use Rattle.platform.specs.declared.record.Record.{Record}
 use Rattle.platform.specs.Platforms.{Sound, described, marked}
-use Rattle.platform.specs.Records.{record_stage, in_range}
+use Rattle.platform.specs.Records.{record_stage}
 use Rattle.platform.specs.Soundness.{record_lawful}
 use Rattle.book.specs.declared.route.Route.{Route}
 use Rattle.book.specs.declared.table.Table.{Table}

@@ -1,6 +1,6 @@
 -- The search through the slots of a table, and what a change of one slot does.
 -- Assumes nothing.
-use Rattle.std.proofs.Common.{◌≡◌, ℕ, zero, suc, ◌+◌, ◌<◌, ◌≤◌, Bool, true, false, cond, eqb, ltb, List, [], ◌∷◌, length, get_or, drop, set, is_some, Some, None, Option, sym, refl, ap, ◌∙◌, subst, ⊎_elim, arith, MatchOption}
+use Rattle.std.proofs.Common.{◌≡◌, ℕ, zero, suc, ◌+◌, ◌<◌, ◌≤◌, Bool, true, false, cond, eqb, List, [], ◌∷◌, length, get_or, drop, set, is_some, Some, None, Option, sym, refl, ap, ◌∙◌, ⊎_elim, arith, MatchOption}
 use Rattle.std.specs.Map.{update}
 use Rattle.std.proofs.lemmas.List.{drop_more, drop_all}
 use Rattle.std.proofs.lemmas.Bool.{cond-true, cond-false, both_ways, cases_Bool, eqb-true, eqb-false, eq-eqb, ne_eqb, lt-ltb, le-ltb, cases_eq, or_left, or_right, or_from}
@@ -239,29 +239,31 @@ pub put_held : (slots : List (Option Task)) (i : ℕ) (t : Task) → Ready slots
 put_held slots i t ready m =
     ⊎_elim
     (λ e.
-    let same = eqb-true m t.number e in
+    let same = sym (eqb-true t.number m e) in
     ap (held_under (set slots i (Some t))) same
     ∙ set_here slots i t.number (Some t) ready.inside ready.alone (eq-eqb t.number t.number refl)
     ∙ sym (cond-true _ _ _ e))
-    (λ e. set_other slots i m (Some t) (ready.free m (eqb-false m t.number e)) e ∙ sym (cond-false _ _ _ e))
-    (cases_Bool (eqb m t.number))
+    (λ e.
+    let other = λ (same : m ≡ t.number). eqb-false t.number m e (sym same) in
+    set_other slots i m (Some t) (ready.free m other) (ne_eqb m t.number other) ∙ sym (cond-false _ _ _ e))
+    (cases_Bool (eqb t.number m))
 
 pub emptied_held : (slots : List (Option Task)) (i n : ℕ) → Ready slots i n
     → (m : ℕ) → held_under (set slots i None) m ≡ update eqb (held_under slots) n None m
 emptied_held slots i n ready m =
     ⊎_elim
-    (λ e. ap (held_under (set slots i None)) (eqb-true m n e) ∙ ready.alone ∙ sym (cond-true _ _ _ e))
-    (λ e. set_other slots i m None (ready.free m (eqb-false m n e)) refl ∙ sym (cond-false _ _ _ e))
-    (cases_Bool (eqb m n))
+    (λ e. ap (held_under (set slots i None)) (sym (eqb-true n m e)) ∙ ready.alone ∙ sym (cond-true _ _ _ e))
+    (λ e. set_other slots i m None (ready.free m (λ same. eqb-false n m e (sym same))) refl ∙ sym (cond-false _ _ _ e))
+    (cases_Bool (eqb n m))
 
 -- a number that is not held is as if taken out
 pub absent_held : (slots : List (Option Task)) (n : ℕ) → held_under slots n ≡ None
     → (m : ℕ) → held_under slots m ≡ update eqb (held_under slots) n None m
 absent_held slots n none m =
     ⊎_elim
-    (λ e. ap (held_under slots) (eqb-true m n e) ∙ none ∙ sym (cond-true _ _ _ e))
+    (λ e. ap (held_under slots) (sym (eqb-true n m e)) ∙ none ∙ sym (cond-true _ _ _ e))
     (λ e. sym (cond-false _ _ _ e))
-    (cases_Bool (eqb m n))
+    (cases_Bool (eqb n m))
 
 pub none_of : (slot : Option Task) → is_some slot ≡ false → slot ≡ None
 none_of None e = refl

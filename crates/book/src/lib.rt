@@ -1,4 +1,6 @@
 // The latency book: a title's tasks and its route over one platform.
+#![tactic(auto)]
+
 pub mod answer;
 pub mod book;
 pub mod fault;

@@ -2,10 +2,10 @@ use Rattle.std.proofs.Common.{◌<◌, ◌≤◌, length, rules}
 use Rattle.book.proofs.Slots.{none_of, vacant_more, vacant_all}
 use Rattle.book.proofs.table.free_slot.Goals as goal
 
-pub returns-then-is-none : goal.returns-then-is-none
-returns-then-is-none c =
+pub returns-then-is_none : goal.returns-then-is_none
+returns-then-is_none c =
     let h : c.loop-i.i < length c.args.slots.now = search rules in
-    record { inside = search rules; found = record { inside = h; empty = none_of _ c.if-is-none.ensures } }
+    record { inside = search rules; found = record { inside = h; empty = none_of _ c.if-is_none.ensures } }
 
 pub loop-i-preserved : goal.loop-i-preserved
 loop-i-preserved c =

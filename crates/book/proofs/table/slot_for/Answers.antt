@@ -11,8 +11,8 @@ returns-in-Some c =
 pub returns-in-None : goal.returns-in-None
 returns-in-None c =
     record {
-      inside = c.free-slot.ensures.inside;
+      inside = c.free_slot.ensures.inside;
       ready = λ distinct ranged.
-          free_ready c.args.slots.now distinct ranged c.told-slots c.args.number c.free-slot.result
-          c.in-None.ensures.found c.free-slot.ensures.found;
+          free_ready c.args.slots.now distinct ranged c.told-slots c.args.number c.free_slot.result
+          c.in-None.ensures.found c.free_slot.ensures.found;
     }

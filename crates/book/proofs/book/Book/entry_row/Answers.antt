@@ -13,9 +13,9 @@ returns g c =
     let stage = entry_stage meaning (stands book.table book.route) c.args.number in
     let row : Row =
     record {
-      cycle = c.in-ok-cycle.cycle;
-      count = c.in-ok-cycle.count;
-      rank = c.in-ok-cycle.rank;
+      cycle = c.in_ok-cycle.cycle;
+      count = c.in_ok-cycle.count;
+      rank = c.in_ok-cycle.rank;
       starts = c.loop-a.starts;
       stops = c.loop-a.stops;
     } in
@@ -23,5 +23,5 @@ returns g c =
     entry_lawful meaning (λ n. g.P.Platform.sound book.platform n) book.table book.route
     (kept _ _ book.keeps) c.args.number in
     row_accepted stage row c.new.result
-    (row_copied stage row lawful c.in-ok-cycle.ensures (λ b h. c.loop-a.invariant.2 b (omega arith)))
+    (row_copied stage row lawful c.in_ok-cycle.ensures (λ b h. c.loop-a.invariant.2 b (omega arith)))
     c.new.ensures.refused

@@ -1,4 +1,4 @@
-use Rattle.std.proofs.Common.{◌≡◌, ◌≤◌, length, take, drop, sym, refl, ap, ◌∙◌, subst, arith}
+use Rattle.std.proofs.Common.{◌≡◌, ◌≤◌, length, take, drop, refl, ap, ◌∙◌, subst, arith}
 use Rattle.std.proofs.lemmas.Result.{err_from_is_err_and}
 use Rattle.path.specs.Given.{stages_of}
 use Rattle.path.specs.Figures.{Figure}
@@ -8,39 +8,39 @@ use Rattle.book.specs.Ledgers.{stages_along}
 use Rattle.book.proofs.Queries.{none_absent, above_three, along_long, number_low, refused_10, refused-search, accepted-search}
 use Rattle.book.proofs.book.Book.query.Goals as goal
 
-pub returns-in-default : goal.returns-in-default
-returns-in-default g c =
+pub returns-in_default : goal.returns-in_default
+returns-in_default g c =
     let book = c.args.self.now in
     record {
       refused = refused_10 (g.P.Platform.meaning book.platform) (stands book.table book.route) c.args.semantics
-          (length c.args.buffer.now) (none_absent _ c.in-ok-check-route.ensures)
-          (above_three c.args.semantics c.in-default.ensures);
+          (length c.args.buffer.now) (none_absent _ c.in_ok-check_route.ensures)
+          (above_three c.args.semantics c.in_default.ensures);
       answered = refl;
       rest = refl;
     }
 
-pub returns-in-err-found : goal.returns-in-err-found
-returns-in-err-found g c =
-    let p = err_from_is_err_and c.from-residual-in-err-found.result c.from-residual-in-err-found.ensures.1 in
+pub returns-in_err-found : goal.returns-in_err-found
+returns-in_err-found g c =
+    let p = err_from_is_err_and c.from_residual-in_err-found.result c.from_residual-in_err-found.ensures.1 in
     let book = c.args.self.now in
     let meaning = g.P.Platform.meaning book.platform in
     let ledger = stands book.table book.route in
-    let rows = c.in-Some-route-rows.rows in
-    let there = c.in-Some-route-rows.ensures in
-    let count = c.route-len-length.ensures.value in
-    let few : length ledger.route ≤ 16 = omega (arith, c.route-len-length.ensures.short) in
+    let rows = c.in-Some-route_rows.rows in
+    let there = c.in-Some-route_rows.ensures in
+    let count = c.route_len-length.ensures.value in
+    let few : length ledger.route ≤ 16 = omega (arith, c.route_len-length.ensures.short) in
     let long = along_long rows (stages_along meaning ledger) (length ledger.route) (omega (arith, there.full)) there.rows in
     let low : c.args.semantics ≤ 3 = omega (arith, number_low c.in-Some.kind, c.in-Some.ensures) in
-    let along : stages_of (take c.route-len-length.result rows) ≡ stages_along meaning ledger =
+    let along : stages_of (take c.route_len-length.result rows) ≡ stages_along meaning ledger =
     ap (λ n. stages_of (take n rows)) count ∙ there.rows in
-    let refused : Refused c.in-err-found.field-0.0 (stages_along meaning ledger) (length c.args.buffer.now) =
-    subst (λ ss. Refused c.in-err-found.field-0.0 ss (length c.args.buffer.now)) along
-    c.in-err-found.ensures.refusal in
-    let same = c.in-err-found.ensures.figure in
+    let refused : Refused c.in_err-found.field-0.0 (stages_along meaning ledger) (length c.args.buffer.now) =
+    subst (λ ss. Refused c.in_err-found.field-0.0 ss (length c.args.buffer.now)) along
+    c.in_err-found.ensures.refusal in
+    let same = c.in_err-found.ensures.figure in
     rw (p.1, p.2)
     (record {
       refused = refused-search meaning ledger c.args.semantics (length c.args.buffer.now)
-          (none_absent _ c.in-ok-check-route.ensures) low few long there.routed c.in-err-found.field-0.0 refused;
+          (none_absent _ c.in_ok-check_route.ensures) low few long there.routed c.in_err-found.field-0.0 refused;
       answered = same;
       rest = ap (drop (length ledger.route)) same;
     })
@@ -50,29 +50,29 @@ returns g c =
     let book = c.args.self.now in
     let meaning = g.P.Platform.meaning book.platform in
     let ledger = stands book.table book.route in
-    let rows = c.in-Some-route-rows.rows in
-    let there = c.in-Some-route-rows.ensures in
-    let count = c.route-len-length.ensures.value in
-    let few : length ledger.route ≤ 16 = omega (arith, c.route-len-length.ensures.short) in
+    let rows = c.in-Some-route_rows.rows in
+    let there = c.in-Some-route_rows.ensures in
+    let count = c.route_len-length.ensures.value in
+    let few : length ledger.route ≤ 16 = omega (arith, c.route_len-length.ensures.short) in
     let long = along_long rows (stages_along meaning ledger) (length ledger.route) (omega (arith, there.full)) there.rows in
     let low : c.args.semantics ≤ 3 = omega (arith, number_low c.in-Some.kind, c.in-Some.ensures) in
-    let along : stages_of (take c.route-len-length.result rows) ≡ stages_along meaning ledger =
+    let along : stages_of (take c.route_len-length.result rows) ≡ stages_along meaning ledger =
     ap (λ n. stages_of (take n rows)) count ∙ there.rows in
-    let found = c.in-ok-found.found in
+    let found = c.in_ok-found.found in
     let figure : Figure c.in-Some.kind (stages_along meaning ledger) found.delay found.predecessor
-    (take c.route-len-length.result c.search.new.buffer) =
+    (take c.route_len-length.result c.search.new.buffer) =
     subst
-    (λ ss. Figure c.in-Some.kind ss found.delay found.predecessor (take c.route-len-length.result c.search.new.buffer))
-    along c.in-ok-found.ensures.figure in
+    (λ ss. Figure c.in-Some.kind ss found.delay found.predecessor (take c.route_len-length.result c.search.new.buffer))
+    along c.in_ok-found.ensures.figure in
     record {
       refused = accepted-search meaning ledger c.args.semantics (length c.args.buffer.now)
-          (none_absent _ c.in-ok-check-route.ensures) low few long there.routed
-          (subst (λ ss. Accepted ss (length c.args.buffer.now)) along c.in-ok-found.ensures.refusal);
+          (none_absent _ c.in_ok-check_route.ensures) low few long there.routed
+          (subst (λ ss. Accepted ss (length c.args.buffer.now)) along c.in_ok-found.ensures.refusal);
       answered = record {
         semantics = c.in-Some.kind;
         numbered = c.in-Some.ensures;
         long = count;
         figure = subst (λ n. Figure c.in-Some.kind (stages_along meaning ledger) found.delay found.predecessor (take n c.search.new.buffer)) count figure;
       };
-      rest = subst (λ n. drop n c.search.new.buffer ≡ drop n c.args.buffer.now) count c.in-ok-found.ensures.rest;
+      rest = subst (λ n. drop n c.search.new.buffer ≡ drop n c.args.buffer.now) count c.in_ok-found.ensures.rest;
     }

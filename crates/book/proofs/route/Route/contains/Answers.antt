@@ -6,16 +6,16 @@ use Rattle.book.proofs.route.Route.contains.Goals as goal
 
 pub returns-then-number-entry : goal.returns-then-number-entry
 returns-then-number-entry c =
-    subst (λ xs. true ≡ on_route xs c.args.number) c.as-slice-entries.ensures.value
-    (route_found c.as-slice-entries.result.now c.loop-entry.entry-index c.args.number (omega arith) c.loop-entry.invariant
+    subst (λ xs. true ≡ on_route xs c.args.number) c.as_slice-entries.ensures.value
+    (route_found c.as_slice-entries.result.now c.loop-entry.entry-index c.args.number (omega arith) c.loop-entry.invariant
     (eq-eqb _ _ c.if-number-entry.true))
 
 pub loop-entry-preserved : goal.loop-entry-preserved
 loop-entry-preserved c =
-    route_more c.as-slice-entries.result.now c.loop-entry.entry-index c.args.number (omega arith) c.loop-entry.invariant
+    route_more c.as_slice-entries.result.now c.loop-entry.entry-index c.args.number (omega arith) c.loop-entry.invariant
     (ne_eqb _ _ c.if-number-entry.false)
 
 pub returns : goal.returns
 returns c =
-    subst (λ xs. false ≡ on_route xs c.args.number) c.as-slice-entries.ensures.value
-    (route_all c.as-slice-entries.result.now c.loop-entry.entry-index c.args.number (omega arith) c.loop-entry.invariant)
+    subst (λ xs. false ≡ on_route xs c.args.number) c.as_slice-entries.ensures.value
+    (route_all c.as_slice-entries.result.now c.loop-entry.entry-index c.args.number (omega arith) c.loop-entry.invariant)

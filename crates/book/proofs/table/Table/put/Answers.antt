@@ -3,10 +3,10 @@ use Rattle.book.specs.declared.table.Task.{Task}
 use Rattle.book.proofs.Slots.{put_held, filled_distinct, filled_ranged}
 use Rattle.book.proofs.table.Table.put.Goals as goal
 
-pub returns-in-default : goal.returns-in-default
-returns-in-default c = λ distinct ranged.
+pub returns-in_default : goal.returns-in_default
+returns-in_default c = λ distinct ranged.
     record {
-      room = sym (c.in-default.ensures.ready distinct ranged);
+      room = sym (c.in_default.ensures.ready distinct ranged);
       held = λ m. refl;
       distinct = distinct;
       ranged = λ low range. ranged;

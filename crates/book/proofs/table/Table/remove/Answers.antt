@@ -11,10 +11,10 @@ returns-in-Some c = λ distinct ranged.
       ranged = emptied_ranged slots c.in-Some.slot ranged;
     }
 
-pub returns-in-default : goal.returns-in-default
-returns-in-default c = λ distinct ranged.
+pub returns-in_default : goal.returns-in_default
+returns-in_default c = λ distinct ranged.
     record {
-      held = absent_held c.args.self.now.slots c.args.number c.in-default.ensures.found;
+      held = absent_held c.args.self.now.slots c.args.number c.in_default.ensures.found;
       distinct = distinct;
       ranged = ranged;
     }

@@ -2,10 +2,9 @@ use Rattle.std.proofs.Common.{sym}
 use Rattle.book.proofs.Kept.{kept, route_keeps}
 use Rattle.book.proofs.book.edits.Book+P+Open.route.Goals as goal
 
-pub invariant-of-self : goal.invariant-of-self
-invariant-of-self g c =
-    let book = c.args.self.now in (
-      ∣ route_keeps (g.P.Platform.meaning book.platform) book.table book.route c.in-Some.route c.args.entries.now
-          (kept _ _ book.keeps) c.in-Some.ensures.1 (sym c.in-default-first-absent.ensures) ∣₁,
-      tt,
-    )
+pub invariant_of-self : goal.invariant_of-self
+invariant_of-self g c =
+    let book = c.args.self.now in record {
+      keeps = ∣ route_keeps (g.P.Platform.meaning book.platform) book.table book.route c.in-Some.route c.args.entries.now
+          (kept _ _ book.keeps) c.in-Some.ensures.1 (sym c.in_default-first_absent.ensures) ∣₁;
+    }
