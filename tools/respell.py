@@ -14,9 +14,13 @@ import sys
 NAME = r"[^\s(){}.;,@\"«»:=\[\]]+"
 WORD = re.compile(r'[^\s(){}.;,@"«»\[\]]+')
 DECLARED = re.compile(
-    rf"^((?:abbrev|unfoldable|pub|record|data)\s+)*({NAME})\s*((?:\(.*?\)|\{{.*?\}})\s*)*:\s*(.*)$"
+    rf"^( *)((?:abbrev|unfoldable|pub|record|data) +)*({NAME}) *((?:\(.*?\)|\{{.*?\}}) *)*:(?: +(.*))?$"
 )
-FIELD = re.compile(rf"^  pub ({NAME}) : ")
+DERIVED = re.compile(rf"^ *deriving {NAME} as ({NAME})")
+# what a `let` or a `λ` binds: known in its file alone, as a helper in a `where` is
+BOUND = re.compile(rf"\blet ({NAME})(?= [:=])|λ \(?({NAME})(?= :|\. )|[({{]({NAME})(?= : )")
+ALIAS = re.compile(rf"^use .*$", re.M)
+AS = re.compile(rf" as ({NAME})(?=[,}}])")
 RULES = re.compile(rf"^(?:pub )?ruleset ({NAME})")
 # what antt makes of a variable at a join, as w.next-is, keeps its dash in a function's own proof
 MADE = re.compile(r"-is$")
@@ -40,24 +44,40 @@ def respelled(name):
     return name.replace("-", "_")
 
 
+def names_of(text):
+    """The names with a dash that a file declares: for others too, and for itself alone."""
+    shared, own = set(), set()
+    for line in text.split("\n"):
+        if line.startswith(("use ", "--", "unfolding ", "mod ", "pub mod ")):
+            continue
+        m = DECLARED.match(line)
+        rules, derived = RULES.match(line), DERIVED.match(line)
+        if rules or derived:
+            shared.add((rules or derived)[1])
+        elif m and not (m[5] or "").startswith("goal."):
+            (shared if not m[1] or "pub " in line.split(":")[0] else own).add(m[3])
+        own.update(n for b in BOUND.finditer(line) for n in b.groups() if n)
+    good = lambda n: "-" in n and re.match("[A-Za-z]", n)
+    return set(filter(good, shared)), set(filter(good, own))
+
+
 def declared(root):
-    """Every name with a dash that a definition, a lemma or a record's field has, with the files that declare it."""
-    found = {}
-    for path in files(root, ".antt"):
-        for line in open(path, encoding="utf-8"):
-            line = line.rstrip("\n")
-            field, rules, m = FIELD.match(line), RULES.match(line), DECLARED.match(line)
-            if field:
-                name = field[1]
-            elif rules:
-                name = rules[1]
-            elif m and not line.startswith((" ", "use ", "--", "unfolding ", "mod ", "pub mod ")) and not m[4].startswith("goal."):
-                name = m[2]
-            else:
-                continue
-            if "-" in name and re.match(r"[A-Za-z]", name):
-                found.setdefault(name, []).append(path)
-    return found
+    """Every name with a dash that a definition, a lemma or a record's field has."""
+    return set().union(*(names_of(open(p, encoding="utf-8").read())[0] for p in files(root, ".antt")))
+
+
+def local(text, table, after_dot):
+    """The names with a dash that a file declares within its definitions, or gives to an import, and uses for nothing else."""
+    imports = " ".join(ALIAS.findall(text))
+    given = {n for n in AS.findall(imports) if "-" in n}
+    imported = set(WORD.findall(AS.sub("", imports)))
+    return {
+        n: respelled(n)
+        for n in (names_of(text)[1] | given) - set(table) - imported
+        if respelled(n) not in WORD.findall(text)
+        and (after_dot or not re.search(rf"[.]{re.escape(n)}(?![\w'-])", text))
+        and not re.search(rf"^pub {re.escape(n)} : goal", text, re.M)
+    }
 
 
 def turned(text, table, after_dot):
@@ -104,7 +124,10 @@ def main():
         if listing:
             continue
         own = re.search(r"/proofs/.*/(Answers|Invariants|Choices|Proof)\.antt$", path)
-        new = turned(text, table, not own) if path.endswith(".antt") else turned_code(text, table)
+        if path.endswith(".antt"):
+            new = turned(text, {**local(text, table, not own), **table}, not own)
+        else:
+            new = turned_code(text, table)
         if new != text:
             open(path, "w", encoding="utf-8").write(new)
 

@@ -10,10 +10,10 @@ use Rattle.book.specs.Ledgers.{cycle_of, RoutedOrNot}
 
 pub cycle_noted : (o : Option Stage) (c k r : ℕ) → Some (c, k, r) ≡ described o → c ≡ cycle_of o
 cycle_noted None c k r e = let z : ◌≡◌ {A = ℕ} 0 1 = cc in absurd (omega arith)
-cycle_noted (Some s) c k r e = first (described-parts (sym e))
+cycle_noted (Some s) c k r e = first (described_parts (sym e))
   where
-    described-parts : {x y : ℕ × ℕ × ℕ} → Some x ≡ Some y → x ≡ y
-    described-parts e = cc
+    described_parts : {x y : ℕ × ℕ × ℕ} → Some x ≡ Some y → x ≡ y
+    described_parts e = cc
 
     first : {x y : ℕ × ℕ × ℕ} → x ≡ y → y.0 ≡ x.0
     first e = sym (ap (λ p. p.0) e)

@@ -13,7 +13,7 @@ use Rattle.platform.specs.declared.record.Record.{Record}
 use Rattle.book.specs.declared.route.Route.{Route}
 use Rattle.book.specs.declared.table.Table.{Table}
 use Rattle.book.specs.declared.table.Task.{Task}
-use Rattle.book.specs.Keeping.{Keeps, keeps-prop, entries_of, stands}
+use Rattle.book.specs.Keeping.{Keeps, keeps_prop, entries_of, stands}
 use Rattle.platform.specs.Records.{record_stage, in_range, period_in_range, offset_in_range, response_in_range}
 use Rattle.book.specs.Ledgers.{entry_stage, first_absent, on_route, refuse, ◌then◌, number_refusal, record_refusal}
 use Rattle.book.proofs.Routes.{off_route, present_all}
@@ -33,7 +33,7 @@ ranged_prop (Some t ∷ xs) = ×₃_prop le_prop (Bool-set _ _) (ranged_prop xs)
 pub kept : (t : Table) (r : Route) → ∥ Keeps t r ∥₁ → Keeps t r
 kept t r k =
     ∥∥₁_elim k
-    (keeps-prop (distinct_prop t.slots) (ranged_prop t.slots)
+    (keeps_prop (distinct_prop t.slots) (ranged_prop t.slots)
     (Π_prop (λ k. Π_prop (λ h. Π_prop (λ l. Bool-set _ _)))))
     (λ x. x)
 
@@ -91,11 +91,11 @@ remove_keeps t u r n before off d range held =
 
 -- what the checks of a number and a record leave
 pub number_low : (n : ℕ) → None ≡ number_refusal n → n < 128
-number_low n e = ⊎_elim (λ h. absurd (refuse-none 1 (ltb 127 n) e h)) (λ h. omega (arith, ltb-false 127 n h)) (cases_Bool (ltb 127 n))
+number_low n e = ⊎_elim (λ h. absurd (refuse_none 1 (ltb 127 n) e h)) (λ h. omega (arith, ltb-false 127 n h)) (cases_Bool (ltb 127 n))
   where
-    refuse-none : (k : ℕ) (b : Bool) → None ≡ refuse k b → b ≡ true → ⊥
-    refuse-none k true e h = let z : ◌≡◌ {A = ℕ} 0 1 = cc in omega arith
-    refuse-none k false e h = both_ways false refl h
+    refuse_none : (k : ℕ) (b : Bool) → None ≡ refuse k b → b ≡ true → ⊥
+    refuse_none k true e h = let z : ◌≡◌ {A = ℕ} 0 1 = cc in omega arith
+    refuse_none k false e h = both_ways false refl h
 
 pub record_in_range : (r : Record) → r.rank ≤ 255 → None ≡ record_refusal r → in_range r ≡ true
 record_in_range r rank e =
@@ -118,11 +118,11 @@ route_keeps meaning t old new entries before same none =
       held = subst (λ xs. (k : ℕ) → k < length xs → get_or xs k 0 < 128 → is_some (held_under t.slots (get_or xs k 0)) ≡ true) (sym same) held;
     }
   where
-    mapped-some : (o : Option Record) → is_some (option_map record_stage o) ≡ is_some o
-    mapped-some None = refl
-    mapped-some (Some r) = refl
+    mapped_some : (o : Option Record) → is_some (option_map record_stage o) ≡ is_some o
+    mapped_some None = refl
+    mapped_some (Some r) = refl
 
     held : (k : ℕ) → k < length entries → get_or entries k 0 < 128 → is_some (held_under t.slots (get_or entries k 0)) ≡ true
     held k h low =
-        sym (mapped-some _) ∙ ap is_some (sym (cond-true _ _ _ (lt-ltb _ 128 low)))
+        sym (mapped_some _) ∙ ap is_some (sym (cond-true _ _ _ (lt-ltb _ 128 low)))
         ∙ present_all (entry_stage meaning (stands t old)) entries none k h

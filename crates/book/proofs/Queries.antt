@@ -35,13 +35,13 @@ number_low FF = omega arith
 
 module _ (meaning : ℕ → Option Stage) (l : Ledger) (semantics room : ℕ)
     (present : first_absent (entry_stage meaning l) l.route ≡ None) where
-  from-10 : (answer : Option Refusal)
+  from_10 : (answer : Option Refusal)
       → RefusedWhere 10 (3 < semantics)
       (RefusedWhere 11 (l.route ≡ [])
       (RefusedWhere 12 (¬ HasMacroPeriod (stages_along meaning l))
       (RefusedWhere 13 (room < length l.route) (λ none. none ≡ None)))) answer
       → QueryRefusal meaning l semantics room answer
-  from-10 answer checks =
+  from_10 answer checks =
       subst
       (λ o. MatchOption o
       (RefusedWhere 10 (3 < semantics)
@@ -52,10 +52,10 @@ module _ (meaning : ℕ → Option Stage) (l : Ledger) (semantics room : ℕ)
       (sym present) checks
 
   pub refused_10 : 3 < semantics → QueryRefusal meaning l semantics room (Some (at_0 10))
-  refused_10 h = from-10 (Some (at_0 10)) (inl (h, refl))
+  refused_10 h = from_10 (Some (at_0 10)) (inl (h, refl))
 
   pub refused_11 : semantics ≤ 3 → l.route ≡ [] → QueryRefusal meaning l semantics room (Some (at_0 11))
-  refused_11 h none = from-10 (Some (at_0 11)) (inr (λ k. omega arith, inl (none, refl)))
+  refused_11 h none = from_10 (Some (at_0 11)) (inr (λ k. omega arith, inl (none, refl)))
 
   -- what the search along the stages refuses, the query does
   module _ (low : semantics ≤ 3) (few : length l.route ≤ 16) (long : length (stages_along meaning l) ≡ length l.route)
@@ -63,17 +63,17 @@ module _ (meaning : ℕ → Option Stage) (l : Ledger) (semantics room : ℕ)
     routed : ¬ (l.route ≡ [])
     routed e = omega (arith, ap length e)
 
-    pub refused-search : (fault : SearchFault) → Refused fault (stages_along meaning l) room
+    pub refused_search : (fault : SearchFault) → Refused fault (stages_along meaning l) room
         → QueryRefusal meaning l semantics room (Some (analysis_fault (search_fault fault)))
-    refused-search Length h = absurd (h (omega arith, omega arith))
-    refused-search MacroPeriod h =
-        from-10 (Some (at_0 12)) (inr (λ k. omega arith, inr (routed, inl (h.1, refl))))
-    refused-search Buffer h =
-        from-10 (Some (at_0 13)) (inr (λ k. omega arith, inr (routed, inr (λ no. no h.1, inl (omega (arith, h.2), refl)))))
+    refused_search Length h = absurd (h (omega arith, omega arith))
+    refused_search MacroPeriod h =
+        from_10 (Some (at_0 12)) (inr (λ k. omega arith, inr (routed, inl (h.1, refl))))
+    refused_search Buffer h =
+        from_10 (Some (at_0 13)) (inr (λ k. omega arith, inr (routed, inr (λ no. no h.1, inl (omega (arith, h.2), refl)))))
 
-    pub accepted-search : Accepted (stages_along meaning l) room → QueryRefusal meaning l semantics room None
-    accepted-search h =
-        from-10 None (inr (λ k. omega arith, inr (routed, inr (λ no. no h.1, inr (λ k. omega (arith, h.2), refl)))))
+    pub accepted_search : Accepted (stages_along meaning l) room → QueryRefusal meaning l semantics room None
+    accepted_search h =
+        from_10 None (inr (λ k. omega arith, inr (routed, inr (λ no. no h.1, inr (λ k. omega (arith, h.2), refl)))))
 
 -- rows that mean the stages along a route are as many
 pub along_long : (rows : List LawfulRow) (ss : List Stage) (n : ℕ) → n ≤ length rows → stages_of (take n rows) ≡ ss → length ss ≡ n

@@ -151,14 +151,14 @@ pub found_ready : (slots : List (Option Task)) (i n : ℕ) → Distinct slots �
 found_ready slots i n d found =
     record {
       inside = found.inside;
-      room = or_left _ _ (held-some (get_or slots i None) n found.has found.held);
+      room = or_left _ _ (held_some (get_or slots i None) n found.has found.held);
       alone = distinct_emptied slots i n d found.has;
       free = λ m apart. has_one (get_or slots i None) n m found.has apart;
     }
   where
-    held-some : (slot : Option Task) (n : ℕ) → has_number slot n ≡ true → held_under slots n ≡ record_in slot → is_some (held_under slots n) ≡ true
-    held-some None n h e = absurd (both_ways false refl h)
-    held-some (Some t) n h e = ap is_some e
+    held_some : (slot : Option Task) (n : ℕ) → has_number slot n ≡ true → held_under slots n ≡ record_in slot → is_some (held_under slots n) ≡ true
+    held_some None n h e = absurd (both_ways false refl h)
+    held_some (Some t) n h e = ap is_some e
 
 -- how many numbers are held
 count_none : (n : ℕ) → held_count (λ m. None) n ≡ 0
@@ -170,29 +170,29 @@ module _ (f : ℕ → Option Record) (k : ℕ) (r : Record) where
   more : ℕ → Option Record
   more m = cond (eqb m k) (Some r) (f m)
 
-  count-apart : (n : ℕ) → n ≤ k → held_count more n ≡ held_count f n
+  count_apart : (n : ℕ) → n ≤ k → held_count more n ≡ held_count f n
   unfolding more held_count
-  count-apart zero h = refl
-  count-apart (suc n) h =
+  count_apart zero h = refl
+  count_apart (suc n) h =
       let apart = ne_eqb n k (omega arith) in
-      rw (cond-false (eqb n k) (Some r) (f n) apart, count-apart n (omega arith)) refl
+      rw (cond-false (eqb n k) (Some r) (f n) apart, count_apart n (omega arith)) refl
 
-  count-more : f k ≡ None → (n : ℕ) → k < n → held_count more n ≡ held_count f n + 1
+  count_more : f k ≡ None → (n : ℕ) → k < n → held_count more n ≡ held_count f n + 1
   unfolding more held_count
-  count-more none zero h = absurd (omega arith)
-  count-more none (suc n) h =
+  count_more none zero h = absurd (omega arith)
+  count_more none (suc n) h =
       ⊎_elim
       (λ e.
       rw (cond-true (eqb n k) (Some r) (f n) (eq-eqb n k e), ap is_some (ap f e ∙ none))
-      (ap (λ c. c + 1) (count-apart n (omega arith))))
+      (ap (λ c. c + 1) (count_apart n (omega arith))))
       (λ apart.
-      rw (cond-false (eqb n k) (Some r) (f n) (ne_eqb n k apart), count-more none n (omega arith))
-      (cond-plus (is_some (f n)) (held_count f n)))
+      rw (cond-false (eqb n k) (Some r) (f n) (ne_eqb n k apart), count_more none n (omega arith))
+      (cond_plus (is_some (f n)) (held_count f n)))
       (cases_eq n k)
     where
-      cond-plus : (b : Bool) (c : ℕ) → cond b (c + 1 + 1) (c + 1) ≡ cond b (c + 1) c + 1
-      cond-plus true c = refl
-      cond-plus false c = refl
+      cond_plus : (b : Bool) (c : ℕ) → cond b (c + 1 + 1) (c + 1) ≡ cond b (c + 1) c + 1
+      cond_plus true c = refl
+      cond_plus false c = refl
 
 -- each slot has a task or none
 pub slots_counted : (slots : List (Option Task)) → Distinct slots → Ranged slots
@@ -201,7 +201,7 @@ unfolding more
 slots_counted [] d h = omega (arith, count_none 128)
 slots_counted (None ∷ xs) d h = omega (arith, slots_counted xs d h)
 slots_counted (Some t ∷ xs) d h =
-    omega (arith, slots_counted xs d.1 h.2, count-more (held_under xs) t.number t.record (none_held _ d.0) 128 h.0)
+    omega (arith, slots_counted xs d.1 h.2, count_more (held_under xs) t.number t.record (none_held _ d.0) 128 h.0)
 
 vacant_some : (slots : List (Option Task)) (i : ℕ) → i < length slots → get_or slots i None ≡ None → 0 < vacant slots
 vacant_some [] i h e = absurd (omega arith)
@@ -275,6 +275,6 @@ held_in_range [] n r range e = cc
 held_in_range (None ∷ xs) n r range e = held_in_range xs n r range e
 held_in_range (Some t ∷ xs) n r range e =
     ⊎_elim
-    (λ h. let same : Some r ≡ Some t.record = e ∙ cond-true _ _ _ h in let r-is : r ≡ t.record = cc in ap in_range r-is ∙ range.1)
+    (λ h. let same : Some r ≡ Some t.record = e ∙ cond-true _ _ _ h in let r_is : r ≡ t.record = cc in ap in_range r_is ∙ range.1)
     (λ h. held_in_range xs n r range.2 (e ∙ cond-false _ _ _ h))
     (cases_Bool (eqb n t.number))

@@ -8,7 +8,7 @@ use Rattle.book.specs.declared.fault.RouteFault.TheVariants.{Task, Length, Absen
 use Rattle.book.specs.declared.fault.AnalysisFault.{AnalysisFault}
 use Rattle.book.specs.declared.fault.AnalysisFault.TheVariants.{Route, Semantics, NoRoute, MacroPeriod, Buffer}
 use Rattle.path.specs.declared.delay.SearchFault.{SearchFault}
-use Rattle.path.specs.declared.delay.SearchFault.TheVariants.{Length as no_length, MacroPeriod as no-period, Buffer as no_room}
+use Rattle.path.specs.declared.delay.SearchFault.TheVariants.{Length as no_length, MacroPeriod as no_period, Buffer as no_room}
 
 -- what a call is refused by
 pub record Refusal : Type 0 where
@@ -42,7 +42,7 @@ analysis_fault Buffer = at_0 13
 -- what a fault of the search is to the book
 abbrev pub search_fault : SearchFault → AnalysisFault
 search_fault no_length = NoRoute
-search_fault no-period = MacroPeriod
+search_fault no_period = MacroPeriod
 search_fault no_room = Buffer
 
 -- the refusal in a call's answer, where `fault` gives the number and place of what it holds

@@ -19,4 +19,4 @@ pub record Keeps (table : Table) (route : Route) : Type 0 where
   pub ranged : Ranged table.slots
   pub held : (k : ℕ) → k < length (entries_of route) → slice_index (entries_of route) k < 128
       → is_some (held_under table.slots (slice_index (entries_of route) k)) ≡ true
-  deriving IsProp as keeps-prop
+  deriving IsProp as keeps_prop

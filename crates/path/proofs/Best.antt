@@ -105,8 +105,8 @@ module _ (m : Semantics) (h : Hop) (t : Tied h) (begin finish : ℕ → ℕ) (k 
       }
 
   -- what begins below the next block begins below f or at f
-  split-block : (f b : ℕ) → b < next_block h f → Opens h b → (b < f) ⊎ (b ≡ f)
-  split-block f b l p =
+  split_block : (f b : ℕ) → b < next_block h f → Opens h b → (b < f) ⊎ (b ≡ f)
+  split_block f b l p =
       ⊎_elim (λ s. inl s)
       (λ s. ⊎_elim (λ u. absurd (none_between h t f b u l p)) (λ u. inr (omega arith)) (cases_lt f b))
       (cases_lt b f)
@@ -118,10 +118,10 @@ module _ (m : Semantics) (h : Hop) (t : Tied h) (begin finish : ℕ → ℕ) (k 
         found = λ p. let (g, s, a, e) = b.found p in (g, omega (arith, next_later h t f), a, e);
         largest = λ g j q s a. ⊎_elim (λ u. b.largest g j q u a)
             (λ u. absurd (none q (subst (λ x. From m h x q) u a.origin)))
-            (split-block f g s (takes_opens m h g j q a));
+            (split_block f g s (takes_opens m h g j q a));
         smallest = λ g j q s a e. ⊎_elim (λ u. b.smallest g j q u a e)
             (λ u. absurd (none q (subst (λ x. From m h x q) u a.origin)))
-            (split-block f g s (takes_opens m h g j q a));
+            (split_block f g s (takes_opens m h g j q a));
       }
 
   -- no path of block f takes longer than its longest
@@ -131,8 +131,8 @@ module _ (m : Semantics) (h : Hop) (t : Tied h) (begin finish : ℕ → ℕ) (k 
       omega (arith, rising_le finish k.finish_rises j (longest m h f) (longest_last m h f j q a))
 
   -- and one that takes just as long is that one
-  in-block-equal : (f j q o : ℕ) → From m h f o → Takes m h f j q → finish j - begin q ≡ finish (longest m h f) - begin o → longest m h f ≤ j
-  in-block-equal f j q o w a e =
+  in_block_equal : (f j q o : ℕ) → From m h f o → Takes m h f j q → finish j - begin q ≡ finish (longest m h f) - begin o → longest m h f ≤ j
+  in_block_equal f j q o w a e =
       let s : begin q ≡ begin o = ap begin (from_only m h f q o a.origin w) in
       let p = takes_time f j q a in
       ⊎_elim (λ u. absurd (omega (arith, k.finish_rises j (longest m h f) u))) (λ u. u) (cases_lt j (longest m h f))
@@ -144,10 +144,10 @@ module _ (m : Semantics) (h : Hop) (t : Tied h) (begin finish : ℕ → ℕ) (k 
         found = λ s. (f, next_later h t f, longest_takes m h f q p w, refl);
         largest = λ g j r s a. ⊎_elim (λ u. omega (arith, b.largest g j r u a))
             (λ u. in_block f j r q w (subst (λ x. Takes m h x j r) u a))
-            (split-block f g s (takes_opens m h g j r a));
+            (split_block f g s (takes_opens m h g j r a));
         smallest = λ g j r s a e. ⊎_elim (λ u. absurd (omega (arith, b.largest g j r u a)))
-            (λ u. in-block-equal f j r q w (subst (λ x. Takes m h x j r) u a) e)
-            (split-block f g s (takes_opens m h g j r a));
+            (λ u. in_block_equal f j r q w (subst (λ x. Takes m h x j r) u a) e)
+            (split_block f g s (takes_opens m h g j r a));
       }
 
   -- One more block, whose longest path does not.
@@ -157,10 +157,10 @@ module _ (m : Semantics) (h : Hop) (t : Tied h) (begin finish : ℕ → ℕ) (k 
         found = λ s. let (g, u, a, e) = b.found s in (g, omega (arith, next_later h t f), a, e);
         largest = λ g j r s a. ⊎_elim (λ u. b.largest g j r u a)
             (λ u. omega (arith, in_block f j r q w (subst (λ x. Takes m h x j r) u a)))
-            (split-block f g s (takes_opens m h g j r a));
+            (split_block f g s (takes_opens m h g j r a));
         smallest = λ g j r s a e. ⊎_elim (λ u. b.smallest g j r u a e)
             (λ u. let a' = subst (λ x. Takes m h x j r) u a in later f d o l j r b a' (omega (arith, takes_time f j r a')))
-            (split-block f g s (takes_opens m h g j r a));
+            (split_block f g s (takes_opens m h g j r a));
       }
     where
       later : (f d o l j r : ℕ) → BestSoFar m h begin finish f d o l → Takes m h f j r → 0 < d → l ≤ j

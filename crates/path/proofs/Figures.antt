@@ -65,68 +65,68 @@ module _ (s : Stage) (ss : List Stage) (l : Lawful s) (ls : AllByRecursion Lawfu
         latest = λ c k o. p.latest c k (begins_opens c o);
       }
 
-  soonest-ends : (p : List ℕ) → Timed (s ∷ ss) p → Soonest (s ∷ ss) p → last_of p ≡ (route_of (s ∷ ss)).ahead (first_of p)
-  soonest-ends p t u =
+  soonest_ends : (p : List ℕ) → Timed (s ∷ ss) p → Soonest (s ∷ ss) p → last_of p ≡ (route_of (s ∷ ss)).ahead (first_of p)
+  soonest_ends p t u =
       first_ends (route_of (s ∷ ss)) route_tied (first_of p) (last_of p) (timed_joins p t)
       (λ k e. subst (λ x. last_of p ≤ x) (witness_last k)
       (u (witness_to (s ∷ ss) k) (witness_timed (first_of p) k e) (witness_first (first_of p) k e)))
 
-  ends-soonest : (f j : ℕ) → Joins (route_of (s ∷ ss)) f j → j ≡ (route_of (s ∷ ss)).ahead f → Soonest (s ∷ ss) (witness_to (s ∷ ss) j)
-  ends-soonest f j e h q t same =
+  ends_soonest : (f j : ℕ) → Joins (route_of (s ∷ ss)) f j → j ≡ (route_of (s ∷ ss)).ahead f → Soonest (s ∷ ss) (witness_to (s ∷ ss) j)
+  ends_soonest f j e h q t same =
       let a = joins_from (route_of (s ∷ ss)) route_tied (first_of q) (last_of q) (timed_joins q t) in
       let b : (route_of (s ∷ ss)).ahead (first_of q) ≡ (route_of (s ∷ ss)).ahead f = ap (route_of (s ∷ ss)).ahead (same ∙ witness_first f j e) in
       omega (arith, witness_last j)
 
-  counts-timed : (m : Semantics) (p : List ℕ) → Counts m (s ∷ ss) p → Timed (s ∷ ss) p
-  counts-timed LL p c = c
-  counts-timed LF p c = c.0
-  counts-timed FL p c = c.0
-  counts-timed FF p c = c.0
+  counts_timed : (m : Semantics) (p : List ℕ) → Counts m (s ∷ ss) p → Timed (s ∷ ss) p
+  counts_timed LL p c = c
+  counts_timed LF p c = c.0
+  counts_timed FL p c = c.0
+  counts_timed FF p c = c.0
 
-  counts-chosen : (m : Semantics) (p : List ℕ) → Counts m (s ∷ ss) p → Chosen m (route_of (s ∷ ss)) (first_of p) (last_of p)
-  counts-chosen LL p c = tt
-  counts-chosen LF p c = soonest-ends p c.0 c.1
-  counts-chosen FL p c = tt
-  counts-chosen FF p c = soonest-ends p c.0 c.1
+  counts_chosen : (m : Semantics) (p : List ℕ) → Counts m (s ∷ ss) p → Chosen m (route_of (s ∷ ss)) (first_of p) (last_of p)
+  counts_chosen LL p c = tt
+  counts_chosen LF p c = soonest_ends p c.0 c.1
+  counts_chosen FL p c = tt
+  counts_chosen FF p c = soonest_ends p c.0 c.1
 
-  origin-from : (m : Semantics) (p : List ℕ) (o : ℕ) → Origin m (s ∷ ss) p o → From m (route_of (s ∷ ss)) (first_of p) o
-  origin-from LL p o h = h
-  origin-from LF p o h = h
-  origin-from FL p o h = predecessor_before (first_of p) o h
-  origin-from FF p o h = predecessor_before (first_of p) o h
+  origin_from : (m : Semantics) (p : List ℕ) (o : ℕ) → Origin m (s ∷ ss) p o → From m (route_of (s ∷ ss)) (first_of p) o
+  origin_from LL p o h = h
+  origin_from LF p o h = h
+  origin_from FL p o h = predecessor_before (first_of p) o h
+  origin_from FF p o h = predecessor_before (first_of p) o h
 
   -- a path that counts, on the route
   pub counts_takes : (m : Semantics) (p : List ℕ) (o : ℕ) → Counts m (s ∷ ss) p → Origin m (s ∷ ss) p o → Takes m (route_of (s ∷ ss)) (first_of p) (last_of p) o
   counts_takes m p o c h =
-      let e = timed_joins p (counts-timed m p c) in
+      let e = timed_joins p (counts_timed m p c) in
       record {
         low = joins_from (route_of (s ∷ ss)) route_tied (first_of p) (last_of p) e;
         high = joins_to (route_of (s ∷ ss)) route_tied (first_of p) (last_of p) e;
-        chosen = counts-chosen m p c;
-        origin = origin-from m p o h;
+        chosen = counts_chosen m p c;
+        origin = origin_from m p o h;
       }
 
   pub takes_joins : (m : Semantics) (f j o : ℕ) → Takes m (route_of (s ∷ ss)) f j o → Joins (route_of (s ∷ ss)) f j
   takes_joins m f j o a = joins (route_of (s ∷ ss)) route_tied f j a.low a.high
 
   -- and back
-  takes-preceded : (f j o : ℕ) → Joins (route_of (s ∷ ss)) f j → Before (route_of (s ∷ ss)) f o → Predecessor (s ∷ ss) (first_of (witness_to (s ∷ ss) j)) o
-  takes-preceded f j o e b =
+  takes_preceded : (f j o : ℕ) → Joins (route_of (s ∷ ss)) f j → Before (route_of (s ∷ ss)) f o → Predecessor (s ∷ ss) (first_of (witness_to (s ∷ ss) j)) o
+  takes_preceded f j o e b =
       subst (λ x. Predecessor (s ∷ ss) x o) (sym (witness_first f j e)) (before_predecessor f o b)
 
   pub takes_counts : (m : Semantics) (f j o : ℕ) → Takes m (route_of (s ∷ ss)) f j o → Counts m (s ∷ ss) (witness_to (s ∷ ss) j)
   takes_counts LL f j o a = let e = takes_joins LL f j o a in witness_timed f j e
-  takes_counts LF f j o a = let e = takes_joins LF f j o a in (witness_timed f j e, ends-soonest f j e a.chosen)
-  takes_counts FL f j o a = let e = takes_joins FL f j o a in (witness_timed f j e, (o, takes-preceded f j o e a.origin))
+  takes_counts LF f j o a = let e = takes_joins LF f j o a in (witness_timed f j e, ends_soonest f j e a.chosen)
+  takes_counts FL f j o a = let e = takes_joins FL f j o a in (witness_timed f j e, (o, takes_preceded f j o e a.origin))
   takes_counts FF f j o a =
       let e = takes_joins FF f j o a in
-      (witness_timed f j e, ends-soonest f j e a.chosen, (o, takes-preceded f j o e a.origin))
+      (witness_timed f j e, ends_soonest f j e a.chosen, (o, takes_preceded f j o e a.origin))
 
   pub takes_origin : (m : Semantics) (f j o : ℕ) → Takes m (route_of (s ∷ ss)) f j o → Origin m (s ∷ ss) (witness_to (s ∷ ss) j) o
   takes_origin LL f j o a = let e = takes_joins LL f j o a in a.origin ∙ sym (witness_first f j e)
   takes_origin LF f j o a = let e = takes_joins LF f j o a in a.origin ∙ sym (witness_first f j e)
-  takes_origin FL f j o a = takes-preceded f j o (takes_joins FL f j o a) a.origin
-  takes_origin FF f j o a = takes-preceded f j o (takes_joins FF f j o a) a.origin
+  takes_origin FL f j o a = takes_preceded f j o (takes_joins FL f j o a) a.origin
+  takes_origin FF f j o a = takes_preceded f j o (takes_joins FF f j o a) a.origin
 
   pub best_figure : (m : Semantics) (d o j : ℕ) → BestOfAll m (route_of (s ∷ ss)) (start_of s) (stop_of (last_or s ss)) d o j → Figure m (s ∷ ss) d (shown_predecessor m o) (witness_to (s ∷ ss) j)
   best_figure m d o j b =
@@ -140,7 +140,7 @@ module _ (s : Stage) (ss : List Stage) (l : Lawful s) (ls : AllByRecursion Lawfu
         smallest = λ p q c h e.
             let low = b.smallest (first_of p) (last_of p) q (counts_takes m p q c h) e in
             ⊎_elim (λ k. inl (omega (arith, witness_last j)))
-            (λ k. inr (timed_only p (counts-timed m p c) ∙ ap (witness_to (s ∷ ss)) (omega arith)))
+            (λ k. inr (timed_only p (counts_timed m p c) ∙ ap (witness_to (s ∷ ss)) (omega arith)))
             (cases_lt j (last_of p));
       }
 

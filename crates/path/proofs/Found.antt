@@ -13,7 +13,7 @@ use Rattle.path.specs.Periods.{Common, instances_in}
 use Rattle.path.specs.Steps.{Counting, from_of, Hop, hop_along, hops_of, trace_back, route_of, first_block, next_block}
 use Rattle.path.proofs.Best.{longest}
 use Rattle.path.proofs.Next.{quick_hops, quick_hops_are}
-use Rattle.path.proofs.Search.{Visit, visit_start, visit-more, visit-same, visit-skip, visit_finish}
+use Rattle.path.proofs.Search.{Visit, visit_start, visit_more, visit_same, visit_skip, visit_finish}
 
 -- whether block f has paths that count
 abbrev counting : Semantics → ℕ → ℕ → Bool
@@ -76,14 +76,14 @@ module _ (m : Semantics) (ss : List Stage) (some : 0 < length ss) (ls : AllByRec
       let d = stop_of (last_stage ss) l - start_of (first_stage ss) o in
       cond_both (counting m (first_block h) s.at) (cond (ltb s.delay d) (kept s h d o l) (on s h)) (on s h) (VisitAt m ss)
       (λ c. cond_both (ltb s.delay d) (kept s h d o l) (on s h) (VisitAt m ss)
-      (λ e. visit-more m ss some ls s.at s.after s.delay s.origin s.last v (counting_is m (first_block h) s.at c) (ltb-true s.delay d e))
-      (λ e. visit-same m ss some ls s.at s.after s.delay s.origin s.last v (counting_is m (first_block h) s.at c) (ltb-false s.delay d e)))
-      (λ c. visit-skip m ss some ls s.at s.after s.delay s.origin s.last v (counting_not m (first_block h) s.at c))
+      (λ e. visit_more m ss some ls s.at s.after s.delay s.origin s.last v (counting_is m (first_block h) s.at c) (ltb-true s.delay d e))
+      (λ e. visit_same m ss some ls s.at s.after s.delay s.origin s.last v (counting_is m (first_block h) s.at c) (ltb-false s.delay d e)))
+      (λ c. visit_skip m ss some ls s.at s.after s.delay s.origin s.last v (counting_not m (first_block h) s.at c))
 
-  many-kept : (n : ℕ) (s : State) → VisitAt m ss s → VisitAt m ss (visit_many m ss (route_of ss) n s)
+  many_kept : (n : ℕ) (s : State) → VisitAt m ss s → VisitAt m ss (visit_many m ss (route_of ss) n s)
   unfolding visit_many
-  many-kept zero s v = v
-  many-kept (suc n) s v = many-kept n (visit_one m ss (route_of ss) s) (one_kept s v)
+  many_kept zero s v = v
+  many_kept (suc n) s v = many_kept n (visit_one m ss (route_of ss) s) (one_kept s v)
 
 -- what is found over given hops: enough blocks visited, and the answer
 pub record Found (m : Semantics) (ss : List Stage) (hs : List Hop) (span n delay : ℕ) (predecessor : Option ℕ) (witness : List ℕ) : Type 0 where
@@ -95,7 +95,7 @@ pub record Found (m : Semantics) (ss : List Stage) (hs : List Hop) (span n delay
 found_figure : (m : Semantics) (ss : List Stage) → 0 < length ss → AllByRecursion Lawful ss → (span : ℕ) → Common span ss → (n delay : ℕ) (predecessor : Option ℕ) (witness : List ℕ) → Found m ss (hops_of ss) span n delay predecessor witness → Figure m ss delay predecessor witness
 found_figure m ss some ls span c n d p w f =
     let s = visit_many m ss (route_of ss) n (start_state (route_of ss)) in
-    let v = many-kept m ss some ls n (start_state (route_of ss)) (visit_start m ss some ls 0) in
+    let v = many_kept m ss some ls n (start_state (route_of ss)) (visit_start m ss some ls 0) in
     let g = visit_finish m ss some ls span c s.at s.after s.delay s.origin s.last v
     (ltb-true (first_block (route_of ss) + instances_in span (first_stage ss)) s.at f.enough) in
     subst (λ x. Figure m ss x p w) f.delay_is

@@ -10,7 +10,7 @@ use Rattle.stage.proofs.Order.{in_order}
 use Rattle.path.specs.Forward.{Waits, does_wait}
 use Rattle.path.specs.Steps.{Hop, count_to, ready_of, ahead_of, back_of, hop_between, hops_from, hops_of}
 use Rattle.path.proofs.Counting.{counted}
-use Rattle.path.proofs.Ready.{waits_cases, ahead_first, back-waiting, back-stopped, back-running, back-nothing}
+use Rattle.path.proofs.Ready.{waits_cases, ahead_first, back_waiting, back_stopped, back_running, back_nothing}
 use Rattle.path.proofs.Shift.{start_turns, start_within}
 
 -- the first instance of s that starts at t or later
@@ -58,43 +58,43 @@ unfolding ahead_quick
 ahead_quick_is w r lw lr i = ahead_first w r lw lr i (next_of r (ready_of w r i)) (next_first r lr (ready_of w r i))
 
 module _ (w r : Stage) (lw : Lawful w) (lr : Lawful r) (j : ℕ) where
-  n-of : ℕ
-  n-of = next_of w (start_of r j + 1)
+  n_of : ℕ
+  n_of = next_of w (start_of r j + 1)
 
   -- the answer where the reader does not wait
-  not-waiting : ¬ Waits w r → cond (ltb (start_of r j) (stop_of w (n-of - 1))) (n-of - 1) n-of ≡ back_of w r (j + 1)
-  unfolding n-of
-  not-waiting h =
+  not_waiting : ¬ Waits w r → cond (ltb (start_of r j) (stop_of w (n_of - 1))) (n_of - 1) n_of ≡ back_of w r (j + 1)
+  unfolding n_of
+  not_waiting h =
       let n : ℕ = next_of w (start_of r j + 1) in
       let f = next_first w lw (start_of r j + 1) in
       ⊎_elim
       (λ some. ⊎_elim
       (λ e. cond-true (ltb (start_of r j) (stop_of w (n - 1))) (n - 1) n e
-      ∙ back-running w r lw lr j n f h some (ltb-true (start_of r j) (stop_of w (n - 1)) e))
+      ∙ back_running w r lw lr j n f h some (ltb-true (start_of r j) (stop_of w (n - 1)) e))
       (λ e. cond-false (ltb (start_of r j) (stop_of w (n - 1))) (n - 1) n e
-      ∙ back-stopped w r lw lr j n f h some (ltb-false (start_of r j) (stop_of w (n - 1)) e))
+      ∙ back_stopped w r lw lr j n f h some (ltb-false (start_of r j) (stop_of w (n - 1)) e))
       (cases_Bool (ltb (start_of r j) (stop_of w (n - 1)))))
       (λ none. ⊎_elim
       (λ e. cond-true (ltb (start_of r j) (stop_of w (n - 1))) (n - 1) n e
-      ∙ (let z : n - 1 ≡ n = omega arith in z) ∙ back-nothing w r lw lr j n f (omega arith))
-      (λ e. cond-false (ltb (start_of r j) (stop_of w (n - 1))) (n - 1) n e ∙ back-nothing w r lw lr j n f (omega arith))
+      ∙ (let z : n - 1 ≡ n = omega arith in z) ∙ back_nothing w r lw lr j n f (omega arith))
+      (λ e. cond-false (ltb (start_of r j) (stop_of w (n - 1))) (n - 1) n e ∙ back_nothing w r lw lr j n f (omega arith))
       (cases_Bool (ltb (start_of r j) (stop_of w (n - 1)))))
       (cases_lt 0 n)
 
-  back-quick-at : back_quick w r (suc j) ≡ back_of w r (j + 1)
-  unfolding back_quick n-of
-  back-quick-at =
+  back_quick_at : back_quick w r (suc j) ≡ back_of w r (j + 1)
+  unfolding back_quick n_of
+  back_quick_at =
       let n : ℕ = next_of w (start_of r j + 1) in
       let other : ℕ = cond (ltb (start_of r j) (stop_of w (n - 1))) (n - 1) n in
       ⊎_elim
-      (λ c. cond-true (does_wait w r) n other c.0 ∙ back-waiting w r lw lr j n (next_first w lw (start_of r j + 1)) c.1)
-      (λ c. cond-false (does_wait w r) n other c.0 ∙ not-waiting c.1)
+      (λ c. cond-true (does_wait w r) n other c.0 ∙ back_waiting w r lw lr j n (next_first w lw (start_of r j + 1)) c.1)
+      (λ c. cond-false (does_wait w r) n other c.0 ∙ not_waiting c.1)
       (waits_cases w r)
 
 pub back_quick_is : (w r : Stage) → Lawful w → Lawful r → (c : ℕ) → back_quick w r c ≡ back_of w r c
 unfolding back_quick back_of
 back_quick_is w r lw lr zero = refl
-back_quick_is w r lw lr (suc j) = back-quick-at w r lw lr j ∙ ap (back_of w r) (add-one j)
+back_quick_is w r lw lr (suc j) = back_quick_at w r lw lr j ∙ ap (back_of w r) (add-one j)
 
 abbrev pub hop_quick : Stage → Stage → Hop
 hop_quick w r = record { ahead = ahead_quick w r; back = back_quick w r }

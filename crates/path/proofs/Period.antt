@@ -48,50 +48,50 @@ pub record BestOfAll (s : Semantics) (h : Hop) (begin finish : ℕ → ℕ) (d o
   pub smallest : (f j q : ℕ) → Takes s h f j q → finish j - begin q ≡ d → l ≤ j
 
 module _ (h : Hop) (t : Tied h) (begin finish : ℕ → ℕ) (n m period : ℕ) (r : Repeats h begin finish n m period) where
-  ahead-next : (i : ℕ) → h.ahead (i + n + 1) ≡ h.ahead (i + 1) + m
-  ahead-next i = subst (λ x. h.ahead x ≡ h.ahead (i + 1) + m) (omega arith) (r.ahead_moves (i + 1))
+  ahead_next : (i : ℕ) → h.ahead (i + n + 1) ≡ h.ahead (i + 1) + m
+  ahead_next i = subst (λ x. h.ahead x ≡ h.ahead (i + 1) + m) (omega arith) (r.ahead_moves (i + 1))
 
   pub opens_up : (f : ℕ) → Opens h f → Opens h (f + n)
-  opens_up f o = omega (arith, r.ahead_moves f, ahead-next f)
+  opens_up f o = omega (arith, r.ahead_moves f, ahead_next f)
 
   pub opens_down : (f : ℕ) → Opens h (f + n) → Opens h f
-  opens_down f o = omega (arith, r.ahead_moves f, ahead-next f)
+  opens_down f o = omega (arith, r.ahead_moves f, ahead_next f)
 
-  before-down : (f b : ℕ) → Before h (f + n) (b + n) → Before h f b
-  before-down f b p =
+  before_down : (f b : ℕ) → Before h (f + n) (b + n) → Before h f b
+  before_down f b p =
       record {
         earlier = omega (arith, p.earlier);
         opens = opens_down b p.opens;
         latest = λ c l o. omega (arith, p.latest (c + n) (omega arith) (opens_up c o));
       }
 
-  chosen-down : (s : Semantics) (f j : ℕ) → Chosen s h (f + n) (j + m) → Chosen s h f j
-  chosen-down LL f j c = tt
-  chosen-down LF f j c = omega (arith, r.ahead_moves f)
-  chosen-down FL f j c = tt
-  chosen-down FF f j c = omega (arith, r.ahead_moves f)
+  chosen_down : (s : Semantics) (f j : ℕ) → Chosen s h (f + n) (j + m) → Chosen s h f j
+  chosen_down LL f j c = tt
+  chosen_down LF f j c = omega (arith, r.ahead_moves f)
+  chosen_down FL f j c = tt
+  chosen_down FF f j c = omega (arith, r.ahead_moves f)
 
-  from-down : (s : Semantics) (f o : ℕ) → From s h (f + n) (o + n) → From s h f o
-  from-down LL f o c = omega arith
-  from-down LF f o c = omega arith
-  from-down FL f o c = before-down f o c
-  from-down FF f o c = before-down f o c
+  from_down : (s : Semantics) (f o : ℕ) → From s h (f + n) (o + n) → From s h f o
+  from_down LL f o c = omega arith
+  from_down LF f o c = omega arith
+  from_down FL f o c = before_down f o c
+  from_down FF f o c = before_down f o c
 
-  takes-down : (s : Semantics) (f j o : ℕ) → Takes s h (f + n) (j + m) (o + n) → Takes s h f j o
-  takes-down s f j o a =
+  takes_down : (s : Semantics) (f j o : ℕ) → Takes s h (f + n) (j + m) (o + n) → Takes s h f j o
+  takes_down s f j o a =
       record {
         low = omega (arith, a.low, r.ahead_moves f);
-        high = omega (arith, a.high, ahead-next f);
-        chosen = chosen-down s f j a.chosen;
-        origin = from-down s f o a.origin;
+        high = omega (arith, a.high, ahead_next f);
+        chosen = chosen_down s f j a.chosen;
+        origin = from_down s f o a.origin;
       }
 
   -- a path that begins after the first block moved is counted from an instance after the first block moved, or from it
-  from-late : (s : Semantics) (f o : ℕ) → first_block h + n < f → From s h f o → n ≤ o
-  from-late LL f o l a = omega arith
-  from-late LF f o l a = omega arith
-  from-late FL f o l a = omega (arith, a.latest (first_block h + n) l (opens_up (first_block h) (first_opens h t)))
-  from-late FF f o l a = omega (arith, a.latest (first_block h + n) l (opens_up (first_block h) (first_opens h t)))
+  from_late : (s : Semantics) (f o : ℕ) → first_block h + n < f → From s h f o → n ≤ o
+  from_late LL f o l a = omega arith
+  from_late LF f o l a = omega arith
+  from_late FL f o l a = omega (arith, a.latest (first_block h + n) l (opens_up (first_block h) (first_opens h t)))
+  from_late FF f o l a = omega (arith, a.latest (first_block h + n) l (opens_up (first_block h) (first_opens h t)))
 
   -- a path that begins there, moved down
   record Lower (s : Semantics) (f j o : ℕ) : Type 0 where
@@ -105,17 +105,17 @@ module _ (h : Hop) (t : Tied h) (begin finish : ℕ → ℕ) (n m period : ℕ) 
 
   lower : (s : Semantics) (f j o : ℕ) → first_block h + n < f → Takes s h f j o → Lower s f j o
   lower s f j o l a =
-      let o-late = from-late s f o l a.origin in
-      let f-is : f ≡ (f - n) + n = omega arith in
+      let o_late = from_late s f o l a.origin in
+      let f_is : f ≡ (f - n) + n = omega arith in
       let o_is : o ≡ (o - n) + n = omega arith in
-      let ahead-is : h.ahead f ≡ h.ahead (f - n) + m = ap h.ahead f-is ∙ r.ahead_moves (f - n) in
-      let j-late : m ≤ j = omega (arith, a.low) in
-      let j-is : j ≡ (j - m) + m = omega arith in
+      let ahead_is : h.ahead f ≡ h.ahead (f - n) + m = ap h.ahead f_is ∙ r.ahead_moves (f - n) in
+      let j_late : m ≤ j = omega (arith, a.low) in
+      let j_is : j ≡ (j - m) + m = omega arith in
       let b = ap begin o_is ∙ r.begin_moves (o - n) in
-      let e = ap finish j-is ∙ r.finish_moves (j - m) in
+      let e = ap finish j_is ∙ r.finish_moves (j - m) in
       let a' : Takes s h ((f - n) + n) ((j - m) + m) ((o - n) + n) =
-      subst (λ x. Takes s h x ((j - m) + m) ((o - n) + n)) f-is
-      (subst (λ y. Takes s h f y ((o - n) + n)) j-is
+      subst (λ x. Takes s h x ((j - m) + m) ((o - n) + n)) f_is
+      (subst (λ y. Takes s h f y ((o - n) + n)) j_is
       (subst (λ z. Takes s h f j z) o_is a)) in
       record {
         f' = f - n;
@@ -124,50 +124,50 @@ module _ (h : Hop) (t : Tied h) (begin finish : ℕ → ℕ) (n m period : ℕ) 
         sooner = omega (arith, r.some_first);
         ends = omega arith;
         same = omega arith;
-        counts = takes-down s (f - n) (j - m) (o - n) a';
+        counts = takes_down s (f - n) (j - m) (o - n) a';
       }
 
   -- what holds of every path that begins up to the first block moved, or sooner than `upto`, holds of all
-  all-largest : (s : Semantics) (upto d o l : ℕ) → BestSoFar s h begin finish upto d o l → first_block h + n < upto → (fuel f j q : ℕ) → f < fuel → Takes s h f j q → finish j - begin q ≤ d
-  all-largest s upto d o l b far zero f j q w a = absurd (omega arith)
-  all-largest s upto d o l b far (suc fuel) f j q w a =
+  all_largest : (s : Semantics) (upto d o l : ℕ) → BestSoFar s h begin finish upto d o l → first_block h + n < upto → (fuel f j q : ℕ) → f < fuel → Takes s h f j q → finish j - begin q ≤ d
+  all_largest s upto d o l b far zero f j q w a = absurd (omega arith)
+  all_largest s upto d o l b far (suc fuel) f j q w a =
       ⊎_elim (λ u. b.largest f j q u a)
       (λ u. let g = lower s f j q (omega arith) a in
-      let z = all-largest s upto d o l b far fuel g.f' g.j' g.o' (omega (arith, g.sooner)) g.counts in
+      let z = all_largest s upto d o l b far fuel g.f' g.j' g.o' (omega (arith, g.sooner)) g.counts in
       omega (arith, g.same))
       (cases_lt f upto)
 
-  all-smallest : (s : Semantics) (upto d o l : ℕ) → BestSoFar s h begin finish upto d o l → first_block h + n < upto → (fuel f j q : ℕ) → f < fuel → Takes s h f j q → finish j - begin q ≡ d → l ≤ j
-  all-smallest s upto d o l b far zero f j q w a e = absurd (omega arith)
-  all-smallest s upto d o l b far (suc fuel) f j q w a e =
+  all_smallest : (s : Semantics) (upto d o l : ℕ) → BestSoFar s h begin finish upto d o l → first_block h + n < upto → (fuel f j q : ℕ) → f < fuel → Takes s h f j q → finish j - begin q ≡ d → l ≤ j
+  all_smallest s upto d o l b far zero f j q w a e = absurd (omega arith)
+  all_smallest s upto d o l b far (suc fuel) f j q w a e =
       ⊎_elim (λ u. b.smallest f j q u a e)
       (λ u. let g = lower s f j q (omega arith) a in
-      let z = all-smallest s upto d o l b far fuel g.f' g.j' g.o' (omega (arith, g.sooner)) g.counts
+      let z = all_smallest s upto d o l b far fuel g.f' g.j' g.o' (omega (arith, g.sooner)) g.counts
       (sym g.same ∙ e) in
       omega (arith, g.ends))
       (cases_lt f upto)
 
   -- one of the visited blocks has a path that counts
-  record Some-block (s : Semantics) : Type 0 where
+  record SomeBlock (s : Semantics) : Type 0 where
     f : ℕ
     o : ℕ
     soon : f ≤ first_block h + n
     opens : Opens h f
     from : From s h f o
 
-  second-soon : next_block h (first_block h) ≤ first_block h + n
-  second-soon =
+  second_soon : next_block h (first_block h) ≤ first_block h + n
+  second_soon =
       next_soonest h t (first_block h) (first_block h + n) (omega (arith, r.some_first))
       (opens_up (first_block h) (first_opens h t))
 
-  some_block : (s : Semantics) → Some-block s
+  some_block : (s : Semantics) → SomeBlock s
   some_block LL = record { f = first_block h; o = first_block h; soon = omega arith; opens = first_opens h t; from = refl }
   some_block LF = record { f = first_block h; o = first_block h; soon = omega arith; opens = first_opens h t; from = refl }
   some_block FL =
       record {
         f = next_block h (first_block h);
         o = first_block h;
-        soon = second-soon;
+        soon = second_soon;
         opens = next_opens h t (first_block h);
         from = next_before h t (first_block h) (first_opens h t);
       }
@@ -175,7 +175,7 @@ module _ (h : Hop) (t : Tied h) (begin finish : ℕ → ℕ) (n m period : ℕ) 
       record {
         f = next_block h (first_block h);
         o = first_block h;
-        soon = second-soon;
+        soon = second_soon;
         opens = next_opens h t (first_block h);
         from = next_before h t (first_block h) (first_opens h t);
       }
@@ -195,6 +195,6 @@ module _ (h : Hop) (t : Tied h) (begin finish : ℕ → ℕ) (n m period : ℕ) 
         first = f;
         takes = c;
         lasts = e;
-        largest = λ f j q a. all-largest s upto d o l b far (f + 1) f j q (omega arith) a;
-        smallest = λ f j q a e. all-smallest s upto d o l b far (f + 1) f j q (omega arith) a e;
+        largest = λ f j q a. all_largest s upto d o l b far (f + 1) f j q (omega arith) a;
+        smallest = λ f j q a e. all_smallest s upto d o l b far (f + 1) f j q (omega arith) a e;
       }

@@ -80,23 +80,23 @@ module _ (w r : Stage) (lw : Lawful w) (lr : Lawful r) where
         to_forward = λ i j h. ready_forward i j (below_not (start_of r) starts_rise (ready_of w r i) j h);
       }
 
-  tie-back : (i c : ℕ) → ahead_of w r i < c → i < back_of w r c
+  tie_back : (i c : ℕ) → ahead_of w r i < c → i < back_of w r c
   unfolding ahead_of back_of
-  tie-back i zero h = absurd (omega arith)
-  tie-back i (suc j) h =
+  tie_back i zero h = absurd (omega arith)
+  tie_back i (suc j) h =
       below_back (ready_of w r) ready_rises (start_of r j + 1) i
       (omega (arith, below_not (start_of r) starts_rise (ready_of w r i) j (omega arith)))
 
-  tie-ahead : (i c : ℕ) → i < back_of w r c → ahead_of w r i < c
+  tie_ahead : (i c : ℕ) → i < back_of w r c → ahead_of w r i < c
   unfolding ahead_of back_of
-  tie-ahead i zero h = absurd (omega arith)
-  tie-ahead i (suc j) h =
+  tie_ahead i zero h = absurd (omega arith)
+  tie_ahead i (suc j) h =
       let a = below_there (ready_of w r) ready_rises (start_of r j + 1) i h in
       ⊎_elim (λ k. let b = below_there (start_of r) starts_rise (ready_of w r i) j k in absurd (omega arith)) (λ k. omega arith)
       (cases_lt j (count_below (start_of r) (ready_of w r i)))
 
   pub hop_tied : Tied (hop_between w r)
-  hop_tied = record { to_back = tie-back; to_ahead = tie-ahead }
+  hop_tied = record { to_back = tie_back; to_ahead = tie_ahead }
 
   pub reaches_back : (i j : ℕ) → Reaches w r i j → i + 1 ≡ back_of w r (j + 1)
   reaches_back i j e = reaches_joins (hop_between w r) hop_tied (Forward w r) hop_follows i j e
@@ -118,14 +118,14 @@ module _ (w r : Stage) (lw : Lawful w) (lr : Lawful r) where
   -- The step back from the first writer that starts after the reader does: n is the number of writers that start by then.
   module _ (j n : ℕ) (f : FirstFrom w (start_of r j + 1) n) where
     -- where the reader waits, that is it
-    pub back-waiting : Waits w r → n ≡ back_of w r (j + 1)
-    back-waiting h =
+    pub back_waiting : Waits w r → n ≡ back_of w r (j + 1)
+    back_waiting h =
         back_counts j n (λ i l. omega (arith, ready_start w r i h, f.earlier i l))
         (λ i l. f.later i (omega (arith, ready_start w r i h)))
 
     -- where it does not and the last of them has stopped, that is it too
-    pub back-stopped : ¬ Waits w r → 0 < n → stop_of w (n - 1) ≤ start_of r j → n ≡ back_of w r (j + 1)
-    back-stopped h p s =
+    pub back_stopped : ¬ Waits w r → 0 < n → stop_of w (n - 1) ≤ start_of r j → n ≡ back_of w r (j + 1)
+    back_stopped h p s =
         back_counts j n
         (λ i l. let a = ready_stop w r i h in
         ⊎_elim (λ k. omega (arith, stops_rise w lw i (n - 1) k))
@@ -134,8 +134,8 @@ module _ (w r : Stage) (lw : Lawful w) (lr : Lawful r) where
         (λ i l. let a = ready_stop w r i h in f.later i (omega (arith, (in_order w lw).start_before_stop i)))
 
     -- where it does not and the last of them is still running, it is one less
-    pub back-running : ¬ Waits w r → 0 < n → start_of r j < stop_of w (n - 1) → n - 1 ≡ back_of w r (j + 1)
-    back-running h p s =
+    pub back_running : ¬ Waits w r → 0 < n → start_of r j < stop_of w (n - 1) → n - 1 ≡ back_of w r (j + 1)
+    back_running h p s =
         back_counts j (n - 1)
         (λ i l. let a = ready_stop w r i h in
         let b = (in_order w lw).stop_before_next i in
@@ -149,7 +149,7 @@ module _ (w r : Stage) (lw : Lawful w) (lr : Lawful r) where
         (cases_lt i (n - 1)))
 
     -- where there is none, that is it
-    pub back-nothing : n ≡ 0 → n ≡ back_of w r (j + 1)
-    back-nothing e =
+    pub back_nothing : n ≡ 0 → n ≡ back_of w r (j + 1)
+    back_nothing e =
         back_counts j n (λ i l. absurd (omega arith))
         (λ i l. f.later i (omega (arith, start_ready i)))

@@ -78,53 +78,53 @@ module _ (m : Semantics) (ss : List Stage) (some : 0 < length ss) (ls : AllByRec
       }
 
   module _ (f p d o l : ℕ) (v : Visit m ss f p d o l) where
-    pub visit-in-time : Counting m (first_block (route_of ss)) f → start_of (first_stage ss) (from_of m f p) < stop_of (last_stage ss) (longest m (route_of ss) f)
-    visit-in-time c =
+    pub visit_in_time : Counting m (first_block (route_of ss)) f → start_of (first_stage ss) (from_of m f p) < stop_of (last_stage ss) (longest m (route_of ss) f)
+    visit_in_time c =
         takes_time m (route_of ss) (tied ss some ls) (begin_of ss) (finish_of ss) (clock ss some ls) f (longest m (route_of ss) f) (from_of m f p)
         (longest_takes m (route_of ss) f (from_of m f p) v.opens (visit_from m ss f p d o l v c))
 
-    next-reached : first_block (route_of ss) < next_block (route_of ss) f
-    next-reached = omega (arith, v.reached, next_later (route_of ss) (tied ss some ls) f)
+    next_reached : first_block (route_of ss) < next_block (route_of ss) f
+    next_reached = omega (arith, v.reached, next_later (route_of ss) (tied ss some ls) f)
 
     same_end : (route_of ss).ahead (next_block (route_of ss) f) ≡ (route_of ss).ahead (f + 1)
     same_end = next_same (route_of ss) (tied ss some ls) f
 
-    next-visit : (d' o' l' : ℕ) → BestSoFar m (route_of ss) (begin_of ss) (finish_of ss) (next_block (route_of ss) f) d' o' l' → l' ≤ (route_of ss).ahead (f + 1) → o' ≤ f → Visit m ss (next_block (route_of ss) f) f d' o' l'
-    next-visit d' o' l' b low from =
+    next_visit : (d' o' l' : ℕ) → BestSoFar m (route_of ss) (begin_of ss) (finish_of ss) (next_block (route_of ss) f) d' o' l' → l' ≤ (route_of ss).ahead (f + 1) → o' ≤ f → Visit m ss (next_block (route_of ss) f) f d' o' l'
+    next_visit d' o' l' b low from =
         record {
           opens = next_opens (route_of ss) (tied ss some ls) f;
-          reached = omega (arith, next-reached);
+          reached = omega (arith, next_reached);
           before = λ h. next_before (route_of ss) (tied ss some ls) f v.opens;
           best = b;
           last_low = omega (arith, same_end);
           origin_low = omega (arith, next_later (route_of ss) (tied ss some ls) f);
         }
 
-    still-low : l ≤ (route_of ss).ahead (f + 1)
-    still-low = omega (arith, v.last_low, v.opens)
+    still_low : l ≤ (route_of ss).ahead (f + 1)
+    still_low = omega (arith, v.last_low, v.opens)
 
     -- A block whose longest path takes longer than the best so far.
-    pub visit-more : Counting m (first_block (route_of ss)) f → d < delay_in m ss f p → Visit m ss (next_block (route_of ss) f) f (delay_in m ss f p) (from_of m f p) (longest m (route_of ss) f)
-    visit-more c up =
-        next-visit (delay_in m ss f p) (from_of m f p) (longest m (route_of ss) f)
+    pub visit_more : Counting m (first_block (route_of ss)) f → d < delay_in m ss f p → Visit m ss (next_block (route_of ss) f) f (delay_in m ss f p) (from_of m f p) (longest m (route_of ss) f)
+    visit_more c up =
+        next_visit (delay_in m ss f p) (from_of m f p) (longest m (route_of ss) f)
         (best_more m (route_of ss) (tied ss some ls) (begin_of ss) (finish_of ss) (clock ss some ls) f d o l (from_of m f p) v.opens (visit_from m ss f p d o l v c) v.best up)
         (omega (arith, longest_low m (route_of ss) f v.opens))
         (from_low m (route_of ss) f (from_of m f p) (visit_from m ss f p d o l v c))
 
     -- A block whose longest path does not.
-    pub visit-same : Counting m (first_block (route_of ss)) f → delay_in m ss f p ≤ d → Visit m ss (next_block (route_of ss) f) f d o l
-    visit-same c down =
-        next-visit d o l
+    pub visit_same : Counting m (first_block (route_of ss)) f → delay_in m ss f p ≤ d → Visit m ss (next_block (route_of ss) f) f d o l
+    visit_same c down =
+        next_visit d o l
         (best_same m (route_of ss) (tied ss some ls) (begin_of ss) (finish_of ss) (clock ss some ls) f d o l (from_of m f p) v.opens (visit_from m ss f p d o l v c) v.best down)
-        still-low v.origin_low
+        still_low v.origin_low
 
     -- A block of which no path counts.
-    pub visit-skip : ¬ Counting m (first_block (route_of ss)) f → Visit m ss (next_block (route_of ss) f) f d o l
-    visit-skip c =
-        next-visit d o l
+    pub visit_skip : ¬ Counting m (first_block (route_of ss)) f → Visit m ss (next_block (route_of ss) f) f d o l
+    visit_skip c =
+        next_visit d o l
         (best_skip m (route_of ss) (tied ss some ls) (begin_of ss) (finish_of ss) (clock ss some ls) f d o l v.best
         (no_from m (route_of ss) (tied ss some ls) f v.reached c))
-        still-low v.origin_low
+        still_low v.origin_low
 
 -- The end of the search: the first block moved by a span has been visited.
 pub visit_finish : (m : Semantics) (ss : List Stage) → 0 < length ss → AllByRecursion Lawful ss → (span : ℕ) → Common span ss → (f p d o l : ℕ) → Visit m ss f p d o l → first_block (route_of ss) + instances_in span (first_stage ss) < f → Figure m ss d (shown_predecessor m o) (witness_to ss l)

@@ -17,7 +17,7 @@ use Rattle.path.specs.Steps.{Counting, from_of, end_in, route_of, witness_to, fi
 use Rattle.path.proofs.Best.{longest, longest_low}
 use Rattle.path.proofs.Given.{all_laws, stages_length}
 use Rattle.path.proofs.Ready.{stops_rise}
-use Rattle.path.proofs.Search.{delay_in, Visit, visit_start, visit-more, visit-same, visit-skip, visit-in-time, visit_in_spans, visit_finish, visit_written, back_there, first_ahead, next_ahead, next_after, instances_in_is, number_small}
+use Rattle.path.proofs.Search.{delay_in, Visit, visit_start, visit_more, visit_same, visit_skip, visit_in_time, visit_in_spans, visit_finish, visit_written, back_there, first_ahead, next_ahead, next_after, instances_in_is, number_small}
 use Rattle.path.proofs.Shift.{start_within, last_holds}
 use Rattle.path.proofs.Sizes.{InSpans}
 use Rattle.path.proofs.Walking.{first_read, last_read}
@@ -58,18 +58,18 @@ abbrev pub last_block : List LawfulRow → ℕ → ℕ
 last_block rows span = first_block (route_of (stages_of rows)) + instances_in span (first_stage (stages_of rows))
 
 module _ (rows : List LawfulRow) (some : 0 < length rows) where
-  stages-some : 0 < length (stages_of rows)
-  stages-some = omega (arith, stages_length rows)
+  stages_some : 0 < length (stages_of rows)
+  stages_some = omega (arith, stages_length rows)
 
   pub zero_early : start_of (first_stage (stages_of rows)) 0 < 2 ^ 36
   zero_early =
-      let l = first_lawful (stages_of rows) stages-some (all_laws rows) in
+      let l = first_lawful (stages_of rows) stages_some (all_laws rows) in
       omega (arith, start_within (first_stage (stages_of rows)) l 1 0 (omega (arith, l.count_low)), l.cycle_high)
 
   -- there is a step back from each step ahead
   pub back_some : (i near : ℕ) → near ≡ (route_of (stages_of rows)).ahead i → 0 < (route_of (stages_of rows)).back (near + 1)
   back_some i near e =
-      subst (λ x. 0 < (route_of (stages_of rows)).back (x + 1)) (sym e) (omega (arith, back_there (stages_of rows) stages-some (all_laws rows) i))
+      subst (λ x. 0 < (route_of (stages_of rows)).back (x + 1)) (sym e) (omega (arith, back_there (stages_of rows) stages_some (all_laws rows) i))
 
   pub first_is : (near first : ℕ) → near ≡ (route_of (stages_of rows)).ahead 0 → first + 1 ≡ (route_of (stages_of rows)).back (near + 1)
       → first ≡ first_block (route_of (stages_of rows))
@@ -80,12 +80,12 @@ module _ (rows : List LawfulRow) (some : 0 < length rows) where
   next_is f far next e b = omega (arith, ap (λ x. (route_of (stages_of rows)).back (x + 1)) e)
 
   pub next_rises : (f far next : ℕ) → far ≡ (route_of (stages_of rows)).ahead (f + 1) → next + 1 ≡ (route_of (stages_of rows)).back (far + 1) → f < next
-  next_rises f far next e b = omega (arith, next_is f far next e b, next_after (stages_of rows) stages-some (all_laws rows) f)
+  next_rises f far next e b = omega (arith, next_is f far next e b, next_after (stages_of rows) stages_some (all_laws rows) f)
 
 module _ (rows : List LawfulRow) (some : 0 < length rows) (few : length rows ≤ 16) (span : ℕ) (c : Common span (stages_of rows)) (short : span ≤ 100_000_000) where
   in_spans : (f : ℕ) → f ≤ last_block rows span → InSpans (stages_of rows) span f
   in_spans f h =
-      visit_in_spans (stages_of rows) (stages-some rows some) (omega (arith, stages_length rows)) (all_laws rows) span c f h
+      visit_in_spans (stages_of rows) (stages_some rows some) (omega (arith, stages_length rows)) (all_laws rows) span c f h
 
   pub first_early : (near : ℕ) → near ≡ (route_of (stages_of rows)).ahead 0 → start_of (last_stage (stages_of rows)) near < 2 ^ 40
   first_early near e =
@@ -93,7 +93,7 @@ module _ (rows : List LawfulRow) (some : 0 < length rows) (few : length rows ≤
       omega (
         arith,
         s.ahead,
-        ap (start_of (last_stage (stages_of rows))) (e ∙ sym (first_ahead (stages_of rows) (stages-some rows some) (all_laws rows))),
+        ap (start_of (last_stage (stages_of rows))) (e ∙ sym (first_ahead (stages_of rows) (stages_some rows some) (all_laws rows))),
       )
 
   pub last_block_small : last_block rows span < 2 ^ 40
@@ -101,7 +101,7 @@ module _ (rows : List LawfulRow) (some : 0 < length rows) (few : length rows ≤
       let s = in_spans (last_block rows span) (omega arith) in
       omega (
         arith,
-        number_small (first_stage (stages_of rows)) (first_lawful (stages_of rows) (stages-some rows some) (all_laws rows))
+        number_small (first_stage (stages_of rows)) (first_lawful (stages_of rows) (stages_some rows some) (all_laws rows))
             (last_block rows span) (32 * span) s.start,
       )
 
@@ -113,33 +113,33 @@ module _ (rows : List LawfulRow) (some : 0 < length rows) (few : length rows ≤
   far_early f far h e = omega (arith, (in_spans f h).ahead_after, ap (start_of (last_stage (stages_of rows))) e)
 
   module _ (m : Semantics) where
-    pub reached-start : (near first : ℕ) → near ≡ (route_of (stages_of rows)).ahead 0 → first + 1 ≡ (route_of (stages_of rows)).back (near + 1)
+    pub reached_start : (near first : ℕ) → near ≡ (route_of (stages_of rows)).ahead 0 → first + 1 ≡ (route_of (stages_of rows)).back (near + 1)
         → Reached m rows first first near 0 0 0
-    reached-start near first e b =
+    reached_start near first e b =
         let z = first_is rows some near first e b in
         record {
           visit = subst (λ f. Visit m (stages_of rows) f first 0 0 0) (sym z)
-              (visit_start m (stages_of rows) (stages-some rows some) (all_laws rows) first);
-          near_is = e ∙ sym (first_ahead (stages_of rows) (stages-some rows some) (all_laws rows)) ∙ ap (route_of (stages_of rows)).ahead (sym z);
+              (visit_start m (stages_of rows) (stages_some rows some) (all_laws rows) first);
+          near_is = e ∙ sym (first_ahead (stages_of rows) (stages_some rows some) (all_laws rows)) ∙ ap (route_of (stages_of rows)).ahead (sym z);
           near_early = first_early near e;
         }
 
     -- The turn at block f: its last end is before `far`, and `next` is the next block.
     module _ (f p near d o l far next : ℕ) (v : Reached m rows f p near d o l) (h : f ≤ last_block rows span)
-        (far-is : far ≡ (route_of (stages_of rows)).ahead (f + 1)) where
+        (far_is : far ≡ (route_of (stages_of rows)).ahead (f + 1)) where
       pub opens : near < far
       opens = omega (arith, v.visit.opens, v.near_is)
 
-      end-is-longest : end_in m near far ≡ longest m (route_of (stages_of rows)) f
-      end-is-longest =
-          ap (λ x. end_in m x far) v.near_is ∙ ap (λ x. end_in m ((route_of (stages_of rows)).ahead f) x) far-is
+      end_is_longest : end_in m near far ≡ longest m (route_of (stages_of rows)) f
+      end_is_longest =
+          ap (λ x. end_in m x far) v.near_is ∙ ap (λ x. end_in m ((route_of (stages_of rows)).ahead f) x) far_is
 
-      pub end-early : stop_of (last_stage (stages_of rows)) (end_in m near far) < 2 ^ 40
-      end-early =
-          let ll = last_lawful (stages_of rows) (stages-some rows some) (all_laws rows) in
+      pub end_early : stop_of (last_stage (stages_of rows)) (end_in m near far) < 2 ^ 40
+      end_early =
+          let ll = last_lawful (stages_of rows) (stages_some rows some) (all_laws rows) in
           omega (
             arith,
-            ap (stop_of (last_stage (stages_of rows))) end-is-longest,
+            ap (stop_of (last_stage (stages_of rows))) end_is_longest,
             stops_rise (last_stage (stages_of rows)) ll (longest m (route_of (stages_of rows)) f) ((route_of (stages_of rows)).ahead (f + 1))
                 (longest_low m (route_of (stages_of rows)) f v.visit.opens),
             (in_spans f h).stop_after,
@@ -150,56 +150,56 @@ module _ (rows : List LawfulRow) (some : 0 < length rows) (few : length rows ≤
       takes k =
           omega (
             arith,
-            ap (stop_of (last_stage (stages_of rows))) end-is-longest,
-            visit-in-time m (stages_of rows) (stages-some rows some) (all_laws rows) f p d o l v.visit k,
+            ap (stop_of (last_stage (stages_of rows))) end_is_longest,
+            visit_in_time m (stages_of rows) (stages_some rows some) (all_laws rows) f p d o l v.visit k,
           )
 
       delay_is : stop_of (last_stage (stages_of rows)) (end_in m near far) - start_of (first_stage (stages_of rows)) (from_of m f p)
           ≡ delay_in m (stages_of rows) f p
       delay_is =
-          ap (λ x. stop_of (last_stage (stages_of rows)) x - start_of (first_stage (stages_of rows)) (from_of m f p)) end-is-longest
+          ap (λ x. stop_of (last_stage (stages_of rows)) x - start_of (first_stage (stages_of rows)) (from_of m f p)) end_is_longest
 
-      module _ (next-comes : next + 1 ≡ (route_of (stages_of rows)).back (far + 1)) where
+      module _ (next_comes : next + 1 ≡ (route_of (stages_of rows)).back (far + 1)) where
         on : (d' o' l' : ℕ) → Visit m (stages_of rows) (next_block (route_of (stages_of rows)) f) f d' o' l' → Reached m rows next f far d' o' l'
         on d' o' l' w =
-            let e = next_is rows some f far next far-is next-comes in
+            let e = next_is rows some f far next far_is next_comes in
             record {
               visit = subst (λ x. Visit m (stages_of rows) x f d' o' l') (sym e) w;
-              near_is = far-is ∙ sym (next_ahead (stages_of rows) (stages-some rows some) (all_laws rows) f) ∙ ap (route_of (stages_of rows)).ahead (sym e);
-              near_early = far_early f far h far-is;
+              near_is = far_is ∙ sym (next_ahead (stages_of rows) (stages_some rows some) (all_laws rows) f) ∙ ap (route_of (stages_of rows)).ahead (sym e);
+              near_early = far_early f far h far_is;
             }
 
-        pub reached-more : (d' o' l' : ℕ) → Counting m (first_block (route_of (stages_of rows))) f
+        pub reached_more : (d' o' l' : ℕ) → Counting m (first_block (route_of (stages_of rows))) f
             → d' ≡ stop_of (last_stage (stages_of rows)) (end_in m near far) - start_of (first_stage (stages_of rows)) (from_of m f p)
             → o' ≡ from_of m f p → l' ≡ end_in m near far → d < d' → Reached m rows next f far d' o' l'
-        reached-more d' o' l' k ed eo el up =
+        reached_more d' o' l' k ed eo el up =
             let nb : ℕ = next_block (route_of (stages_of rows)) f in
             on d' o' l'
             (subst (λ x. Visit m (stages_of rows) nb f x o' l') (sym (ed ∙ delay_is))
             (subst (λ x. Visit m (stages_of rows) nb f (delay_in m (stages_of rows) f p) x l') (sym eo)
-            (subst (λ x. Visit m (stages_of rows) nb f (delay_in m (stages_of rows) f p) (from_of m f p) x) (sym (el ∙ end-is-longest))
-            (visit-more m (stages_of rows) (stages-some rows some) (all_laws rows) f p d o l v.visit k (omega (arith, ed, delay_is))))))
+            (subst (λ x. Visit m (stages_of rows) nb f (delay_in m (stages_of rows) f p) (from_of m f p) x) (sym (el ∙ end_is_longest))
+            (visit_more m (stages_of rows) (stages_some rows some) (all_laws rows) f p d o l v.visit k (omega (arith, ed, delay_is))))))
 
-        pub reached-same : (d' : ℕ) → Counting m (first_block (route_of (stages_of rows))) f
+        pub reached_same : (d' : ℕ) → Counting m (first_block (route_of (stages_of rows))) f
             → d' ≡ stop_of (last_stage (stages_of rows)) (end_in m near far) - start_of (first_stage (stages_of rows)) (from_of m f p)
             → d' ≤ d → Reached m rows next f far d o l
-        reached-same d' k ed down =
-            on d o l (visit-same m (stages_of rows) (stages-some rows some) (all_laws rows) f p d o l v.visit k (omega (arith, ed, delay_is)))
+        reached_same d' k ed down =
+            on d o l (visit_same m (stages_of rows) (stages_some rows some) (all_laws rows) f p d o l v.visit k (omega (arith, ed, delay_is)))
 
-        pub reached-skip : ¬ Counting m (first_block (route_of (stages_of rows))) f → Reached m rows next f far d o l
-        reached-skip k = on d o l (visit-skip m (stages_of rows) (stages-some rows some) (all_laws rows) f p d o l v.visit k)
+        pub reached_skip : ¬ Counting m (first_block (route_of (stages_of rows))) f → Reached m rows next f far d o l
+        reached_skip k = on d o l (visit_skip m (stages_of rows) (stages_some rows some) (all_laws rows) f p d o l v.visit k)
 
     -- The end of the search.
     module _ (f p near d o l : ℕ) (v : Reached m rows f p near d o l) (past : last_block rows span < f) where
-      pub reached-figure : Figure m (stages_of rows) d (shown_predecessor m o) (witness_to (stages_of rows) l)
-      reached-figure = visit_finish m (stages_of rows) (stages-some rows some) (all_laws rows) span c f p d o l v.visit past
+      pub reached_figure : Figure m (stages_of rows) d (shown_predecessor m o) (witness_to (stages_of rows) l)
+      reached_figure = visit_finish m (stages_of rows) (stages_some rows some) (all_laws rows) span c f p d o l v.visit past
 
-      pub reached-there : 0 < (route_of (stages_of rows)).back (l + 1)
-      reached-there = visit_written m (stages_of rows) (stages-some rows some) (all_laws rows) span c f p d o l v.visit past
+      pub reached_there : 0 < (route_of (stages_of rows)).back (l + 1)
+      reached_there = visit_written m (stages_of rows) (stages_some rows some) (all_laws rows) span c f p d o l v.visit past
 
-      pub reached-early : start_of (last_stage (stages_of rows)) l < 2 ^ 40
-      reached-early =
-          let ll = last_lawful (stages_of rows) (stages-some rows some) (all_laws rows) in
+      pub reached_early : start_of (last_stage (stages_of rows)) l < 2 ^ 40
+      reached_early =
+          let ll = last_lawful (stages_of rows) (stages_some rows some) (all_laws rows) in
           let low : l ≤ near = omega (arith, v.visit.last_low, v.near_is) in
           ⊎_elim (λ k. omega (arith, (in_order (last_stage (stages_of rows)) ll).starts_rise l near k, v.near_early))
           (λ k. let e : start_of (last_stage (stages_of rows)) l ≡ start_of (last_stage (stages_of rows)) near =

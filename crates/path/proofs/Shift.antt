@@ -24,12 +24,12 @@ module _ (s : Stage) (l : Lawful s) where
       let e : start_of s (i + k * count_of s + count_of s) ≡ start_of s i + suc k * s.cycle = omega arith in
       subst (λ x. start_of s x ≡ start_of s i + suc k * s.cycle) (omega arith) e
 
-  stop-turns : (k i : ℕ) → stop_of s (i + k * count_of s) ≡ stop_of s i + k * s.cycle
-  stop-turns zero i =
+  stop_turns : (k i : ℕ) → stop_of s (i + k * count_of s) ≡ stop_of s i + k * s.cycle
+  stop_turns zero i =
       let e : stop_of s i ≡ stop_of s i + 0 * s.cycle = omega arith in
       subst (λ x. stop_of s x ≡ stop_of s i + 0 * s.cycle) (omega arith) e
-  stop-turns (suc k) i =
-      let a = stop-turns k i in
+  stop_turns (suc k) i =
+      let a = stop_turns k i in
       let b = (in_order s l).stop_shift (i + k * count_of s) in
       let e : stop_of s (i + k * count_of s + count_of s) ≡ stop_of s i + suc k * s.cycle = omega arith in
       subst (λ x. stop_of s x ≡ stop_of s i + suc k * s.cycle) (omega arith) e
@@ -43,33 +43,33 @@ module _ (s : Stage) (l : Lawful s) where
       omega (arith, l.start_in_cycle (i % count_of s) (mod-lt i l.count_low))
 
   module _ (span : ℕ) (w : Whole span s) where
-    span-is : span / s.cycle * s.cycle ≡ span
-    span-is = omega (arith, div-add-mod' span s.cycle)
+    span_is : span / s.cycle * s.cycle ≡ span
+    span_is = omega (arith, div-add-mod' span s.cycle)
 
-    pub start-moves : (i : ℕ) → start_of s (i + instances_in span s) ≡ start_of s i + span
+    pub start_moves : (i : ℕ) → start_of s (i + instances_in span s) ≡ start_of s i + span
     unfolding instances_in
-    start-moves i = start_turns (span / s.cycle) i ∙ ap (λ x. start_of s i + x) span-is
+    start_moves i = start_turns (span / s.cycle) i ∙ ap (λ x. start_of s i + x) span_is
 
-    pub stop-moves : (i : ℕ) → stop_of s (i + instances_in span s) ≡ stop_of s i + span
+    pub stop_moves : (i : ℕ) → stop_of s (i + instances_in span s) ≡ stop_of s i + span
     unfolding instances_in
-    stop-moves i = stop-turns (span / s.cycle) i ∙ ap (λ x. stop_of s i + x) span-is
+    stop_moves i = stop_turns (span / s.cycle) i ∙ ap (λ x. stop_of s i + x) span_is
 
-    pub start-in-span : (i : ℕ) → i < instances_in span s → start_of s i < span
+    pub start_in_span : (i : ℕ) → i < instances_in span s → start_of s i < span
     unfolding instances_in
-    start-in-span i h = subst (λ x. start_of s i < x) span-is (start_within (span / s.cycle) i h)
+    start_in_span i h = subst (λ x. start_of s i < x) span_is (start_within (span / s.cycle) i h)
 
-    turns-some : 0 < span → 1 ≤ span / s.cycle
-    turns-some p =
+    turns_some : 0 < span → 1 ≤ span / s.cycle
+    turns_some p =
         ⊎_elim (λ h. h)
-        (λ h. let e : span / s.cycle * s.cycle ≡ 0 * s.cycle = ap (λ x. x * s.cycle) (omega arith) in absurd (omega (arith, span-is)))
+        (λ h. let e : span / s.cycle * s.cycle ≡ 0 * s.cycle = ap (λ x. x * s.cycle) (omega arith) in absurd (omega (arith, span_is)))
         (cases_lt 0 (span / s.cycle))
 
-    pub cycle-in-span : 0 < span → s.cycle ≤ span
-    cycle-in-span p = omega (arith, span-is, mul-le-mul_right s.cycle (turns-some p))
+    pub cycle_in_span : 0 < span → s.cycle ≤ span
+    cycle_in_span p = omega (arith, span_is, mul-le-mul_right s.cycle (turns_some p))
 
-    pub instances-some : 0 < span → 0 < instances_in span s
+    pub instances_some : 0 < span → 0 < instances_in span s
     unfolding instances_in
-    instances-some p = omega (arith, mul-le-mul_right (count_of s) (turns-some p), l.count_low)
+    instances_some p = omega (arith, mul-le-mul_right (count_of s) (turns_some p), l.count_low)
 
 module _ (w r : Stage) (lw : Lawful w) (lr : Lawful r) where
   pub ready_soon : (i : ℕ) → ready_of w r i ≤ start_of w i + w.cycle
@@ -83,36 +83,36 @@ module _ (w r : Stage) (lw : Lawful w) (lr : Lawful r) where
   ahead_ready i = forward_ready w r lw lr i (ahead_of w r i) ((hop_follows w r lw lr).to_forward i (ahead_of w r i) (omega arith))
 
   module _ (span : ℕ) (ww : Whole span w) (wr : Whole span r) where
-    pub ready-moves : (i : ℕ) → ready_of w r (i + instances_in span w) ≡ ready_of w r i + span
-    ready-moves i =
-        ⊎_elim (λ k. omega (arith, ready_start w r i k.1, ready_start w r (i + instances_in span w) k.1, start-moves w lw span ww i))
-        (λ k. omega (arith, ready_stop w r i k.1, ready_stop w r (i + instances_in span w) k.1, stop-moves w lw span ww i))
+    pub ready_moves : (i : ℕ) → ready_of w r (i + instances_in span w) ≡ ready_of w r i + span
+    ready_moves i =
+        ⊎_elim (λ k. omega (arith, ready_start w r i k.1, ready_start w r (i + instances_in span w) k.1, start_moves w lw span ww i))
+        (λ k. omega (arith, ready_stop w r i k.1, ready_stop w r (i + instances_in span w) k.1, stop_moves w lw span ww i))
         (waits_cases w r)
 
     -- how many start before a time, a span later
-    below-moves : (t : ℕ) → count_below (start_of r) t + instances_in span r ≡ count_below (start_of r) (t + span)
-    below-moves t =
+    below_moves : (t : ℕ) → count_below (start_of r) t + instances_in span r ≡ count_below (start_of r) (t + span)
+    below_moves t =
         let up = (in_order r lr).starts_rise in
         below_only (start_of r) up (t + span) (count_below (start_of r) t + instances_in span r)
-        (λ i h. ⊎_elim (λ k. omega (arith, start-in-span r lr span wr i k))
+        (λ i h. ⊎_elim (λ k. omega (arith, start_in_span r lr span wr i k))
         (λ k. let e : start_of r i ≡ start_of r ((i - instances_in span r) + instances_in span r) = ap (start_of r) (omega arith) in
-        omega (arith, start-moves r lr span wr (i - instances_in span r), below_there (start_of r) up t (i - instances_in span r) (omega arith)))
+        omega (arith, start_moves r lr span wr (i - instances_in span r), below_there (start_of r) up t (i - instances_in span r) (omega arith)))
         (cases_lt i (instances_in span r)))
         (λ i h. ⊎_elim (λ k. omega arith)
         (λ k. let e : start_of r i ≡ start_of r ((i - instances_in span r) + instances_in span r) = ap (start_of r) (omega arith) in
-        let b = start-moves r lr span wr (i - instances_in span r) in
+        let b = start_moves r lr span wr (i - instances_in span r) in
         omega (arith, below_back (start_of r) up t (i - instances_in span r) (omega arith)))
         (cases_lt i (instances_in span r)))
 
-    pub hop-moves : (i : ℕ) → ahead_of w r (i + instances_in span w) ≡ ahead_of w r i + instances_in span r
+    pub hop_moves : (i : ℕ) → ahead_of w r (i + instances_in span w) ≡ ahead_of w r i + instances_in span r
     unfolding ahead_of
-    hop-moves i = ap (count_below (start_of r)) (ready-moves i) ∙ sym (below-moves (ready_of w r i))
+    hop_moves i = ap (count_below (start_of r)) (ready_moves i) ∙ sym (below_moves (ready_of w r i))
 
 -- all of the route
 pub along_moves : (s : Stage) (ss : List Stage) → Lawful s → AllByRecursion Lawful ss → (span : ℕ) → Whole span s → AllByRecursion (Whole span) ss → (i : ℕ) → (hop_along (hops_from s ss)).ahead (i + instances_in span s) ≡ (hop_along (hops_from s ss)).ahead i + instances_in span (last_or s ss)
 along_moves s [] l ls span w ws i = refl
 along_moves s (r ∷ ss) l ls span w ws i =
-    ap (hop_along (hops_from r ss)).ahead (hop-moves s r l ls.0 span w ws.0 i)
+    ap (hop_along (hops_from r ss)).ahead (hop_moves s r l ls.0 span w ws.0 i)
     ∙ along_moves r ss ls.0 ls.1 span ws.0 ws.1 (ahead_of s r i)
 
 pub along_later : (s : Stage) (ss : List Stage) → Lawful s → AllByRecursion Lawful ss → (i : ℕ) → start_of s i ≤ start_of (last_or s ss) ((hop_along (hops_from s ss)).ahead i)
@@ -145,9 +145,9 @@ module _ (s : Stage) (ss : List Stage) (l : Lawful s) (ls : AllByRecursion Lawfu
       let ws = c.whole.1 in
       let e = last_holds (Whole span) s ss w ws in
       record {
-        some_first = instances-some s l span w c.positive;
-        some_last = instances-some (last_or s ss) last_lawful span e c.positive;
+        some_first = instances_some s l span w c.positive;
+        some_last = instances_some (last_or s ss) last_lawful span e c.positive;
         ahead_moves = along_moves s ss l ls span w ws;
-        begin_moves = start-moves s l span w;
-        finish_moves = stop-moves (last_or s ss) last_lawful span e;
+        begin_moves = start_moves s l span w;
+        finish_moves = stop_moves (last_or s ss) last_lawful span e;
       }

@@ -11,7 +11,7 @@ use Rattle.path.specs.Steps.{count_below, ready_of, ahead_of, back_of, hops_from
 use Rattle.path.proofs.Counting.{below_there}
 use Rattle.path.proofs.Ready.{hop_tied, hop_follows}
 use Rattle.path.proofs.Blocks.{first_same, next_same}
-use Rattle.path.proofs.Shift.{start_within, start-moves, cycle-in-span, ready_soon, along_later, last_holds}
+use Rattle.path.proofs.Shift.{start_within, start_moves, cycle_in_span, ready_soon, along_later, last_holds}
 use Rattle.path.proofs.Figures.{route_tied}
 
 module _ (w r : Stage) (lw : Lawful w) (lr : Lawful r) where
@@ -50,7 +50,7 @@ along_soon s (r ∷ ss) l ls span h hs i =
 
 pub all_short : (span : ℕ) → 0 < span → (ss : List Stage) → AllByRecursion Lawful ss → AllByRecursion (Whole span) ss → AllByRecursion (Short span) ss
 all_short span p [] ls ws = tt
-all_short span p (s ∷ ss) ls ws = (cycle-in-span s ls.0 span ws.0 p, all_short span p ss ls.1 ws.1)
+all_short span p (s ∷ ss) ls ws = (cycle_in_span s ls.0 span ws.0 p, all_short span p ss ls.1 ws.1)
 
 -- The times of block f, in spans.
 pub record InSpans (ss : List Stage) (span f : ℕ) : Type 0 where
@@ -63,13 +63,13 @@ pub record InSpans (ss : List Stage) (span f : ℕ) : Type 0 where
   pub next : start_of (first_stage ss) (next_block (route_of ss) f) ≤ 63 * span
 
 module _ (s : Stage) (ss : List Stage) (l : Lawful s) (ls : AllByRecursion Lawful ss) (span : ℕ) (c : Common span (s ∷ ss)) (few : length ss ≤ 15) where
-  far-enough : length ss * (2 * span) ≤ 30 * span
-  far-enough = omega (arith, mul-le-mul_right (2 * span) few)
+  far_enough : length ss * (2 * span) ≤ 30 * span
+  far_enough = omega (arith, mul-le-mul_right (2 * span) few)
 
   soon : (i : ℕ) → start_of (last_or s ss) ((route_of (s ∷ ss)).ahead i) ≤ start_of s i + 30 * span
   soon i =
       let h = all_short span c.positive (s ∷ ss) (l, ls) c.whole in
-      omega (arith, along_soon s ss l ls span h.0 h.1 i, far-enough)
+      omega (arith, along_soon s ss l ls span h.0 h.1 i, far_enough)
 
   -- an instance whose steps ahead lead where those of k do starts no later than those lead
   earlier : (f k : ℕ) → (route_of (s ∷ ss)).ahead f ≡ (route_of (s ∷ ss)).ahead k → start_of s f ≤ start_of s k + 30 * span
@@ -82,11 +82,11 @@ module _ (s : Stage) (ss : List Stage) (l : Lawful s) (ls : AllByRecursion Lawfu
         arith,
         earlier (first_block (route_of (s ∷ ss))) 0 (first_same (route_of (s ∷ ss)) (route_tied s ss l ls)),
         start_within s l 1 0 (omega (arith, l.count_low)),
-        cycle-in-span s l span c.whole.0 c.positive,
+        cycle_in_span s l span c.whole.0 c.positive,
       )
 
-  starts-le : (i j : ℕ) → i ≤ j → start_of s i ≤ start_of s j
-  starts-le i j h =
+  starts_le : (i j : ℕ) → i ≤ j → start_of s i ≤ start_of s j
+  starts_le i j h =
       ⊎_elim (λ k. omega (arith, (in_order s l).starts_rise i j k))
       (λ k. let e : start_of s i ≡ start_of s j = ap (start_of s) (omega arith) in omega arith) (cases_lt i j)
 
@@ -101,8 +101,8 @@ module _ (s : Stage) (ss : List Stage) (l : Lawful s) (ls : AllByRecursion Lawfu
       let here : start_of s f ≤ 32 * span =
       omega (
         arith,
-        starts-le f (first_block (route_of (s ∷ ss)) + instances_in span s) h,
-        start-moves s l span c.whole.0 (first_block (route_of (s ∷ ss))),
+        starts_le f (first_block (route_of (s ∷ ss)) + instances_in span s) h,
+        start_moves s l span c.whole.0 (first_block (route_of (s ∷ ss))),
         first_early,
       ) in
       let after : start_of s (f + 1) ≤ 33 * span = omega (arith, (in_order s l).next_within_cycle f) in

@@ -7,7 +7,7 @@ use Rattle.stage.specs.Instances.{FirstFrom}
 use Rattle.stage.proofs.Order.{in_order}
 use Rattle.path.specs.Forward.{Waits, does_wait}
 use Rattle.path.specs.Steps.{ready_of, ahead_of, back_of}
-use Rattle.path.proofs.Ready.{waits_cases, ahead_first, back-waiting, back-stopped, back-running, back-nothing}
+use Rattle.path.proofs.Ready.{waits_cases, ahead_first, back_waiting, back_stopped, back_running, back_nothing}
 
 -- the test of waiting, and what it says
 pub waits_true : (w r : Stage) → does_wait w r ≡ true → Waits w r
@@ -37,20 +37,20 @@ module _ (w r : Stage) (lw : Lawful w) (lr : Lawful r) where
 
     -- some writer has started
     pub back_some : 1 ≤ n
-    back_some = ⊎_elim (λ k. omega arith) (λ k. omega (arith, back-nothing w r lw lr j n first (omega arith))) (cases_lt 0 n)
+    back_some = ⊎_elim (λ k. omega arith) (λ k. omega (arith, back_nothing w r lw lr j n first (omega arith))) (cases_lt 0 n)
 
     -- and the last of them stops soon
-    pub back-stops : stop_of w (n - 1) ≤ t + 100_000_000
-    back-stops = let s = back_some in omega (arith, first.earlier (n - 1) (omega arith), stop_soon w lw (n - 1))
+    pub back_stops : stop_of w (n - 1) ≤ t + 100_000_000
+    back_stops = let s = back_some in omega (arith, first.earlier (n - 1) (omega arith), stop_soon w lw (n - 1))
 
     -- it is the one that is read, where the reader waits or it has stopped
-    pub back-waits : does_wait w r ≡ true → n - 1 + 1 ≡ back_of w r (j + 1)
-    back-waits h = let s = back_some in omega (arith, back-waiting w r lw lr j n first (waits_true w r h))
+    pub back_waits : does_wait w r ≡ true → n - 1 + 1 ≡ back_of w r (j + 1)
+    back_waits h = let s = back_some in omega (arith, back_waiting w r lw lr j n first (waits_true w r h))
 
-    pub back-stopping : does_wait w r ≡ false → stop_of w (n - 1) ≤ t → n - 1 + 1 ≡ back_of w r (j + 1)
-    back-stopping h k =
-        let s = back_some in omega (arith, back-stopped w r lw lr j n first (waits_false w r h) (omega arith) (omega arith))
+    pub back_stopping : does_wait w r ≡ false → stop_of w (n - 1) ≤ t → n - 1 + 1 ≡ back_of w r (j + 1)
+    back_stopping h k =
+        let s = back_some in omega (arith, back_stopped w r lw lr j n first (waits_false w r h) (omega arith) (omega arith))
 
     -- otherwise the one before it
-    pub back-before : does_wait w r ≡ false → t < stop_of w (n - 1) → n - 1 ≡ back_of w r (j + 1)
-    back-before h k = let s = back_some in back-running w r lw lr j n first (waits_false w r h) (omega arith) (omega arith)
+    pub back_before : does_wait w r ≡ false → t < stop_of w (n - 1) → n - 1 ≡ back_of w r (j + 1)
+    back_before h k = let s = back_some in back_running w r lw lr j n first (waits_false w r h) (omega arith) (omega arith)

@@ -27,8 +27,8 @@ origin_only FL ss p o q a b = omega (arith, a.latest q b.earlier b.begins, b.lat
 origin_only FF ss p o q a b = omega (arith, a.latest q b.earlier b.begins, b.latest o a.earlier a.begins)
 
 module _ (m : Semantics) (ss : List Stage) (d e : ℕ) (p q : Option ℕ) (v w : List ℕ) (a : Figure m ss d p v) (b : Figure m ss e q w) where
-  same-delay : d ≡ e
-  same-delay =
+  same_delay : d ≡ e
+  same_delay =
       omega (
         arith,
         a.largest w b.origin b.counts b.from_origin,
@@ -37,20 +37,20 @@ module _ (m : Semantics) (ss : List Stage) (d e : ℕ) (p q : Option ℕ) (v w :
         a.takes,
       )
 
-  same-witness : v ≡ w
-  same-witness =
+  same_witness : v ≡ w
+  same_witness =
       ⊎_elim
-      (λ x. ⊎_elim (λ y. absurd (omega arith)) (λ y. y) (b.smallest v a.origin a.counts a.from_origin (sym a.takes ∙ same-delay)))
+      (λ x. ⊎_elim (λ y. absurd (omega arith)) (λ y. y) (b.smallest v a.origin a.counts a.from_origin (sym a.takes ∙ same_delay)))
       (λ x. sym x)
-      (a.smallest w b.origin b.counts b.from_origin (sym b.takes ∙ sym same-delay))
+      (a.smallest w b.origin b.counts b.from_origin (sym b.takes ∙ sym same_delay))
 
   pub figure_only : SameAnswer d e p q v w
   figure_only =
       record {
-        delay = same-delay;
+        delay = same_delay;
         predecessor = a.answers ∙ ap (shown_predecessor m) (origin_only m ss w a.origin b.origin
-            (subst (λ x. Origin m ss x a.origin) same-witness a.from_origin) b.from_origin) ∙ sym b.answers;
-        witness = same-witness;
+            (subst (λ x. Origin m ss x a.origin) same_witness a.from_origin) b.from_origin) ∙ sym b.answers;
+        witness = same_witness;
       }
 
 -- At least one: visit block after block.
@@ -70,32 +70,32 @@ record Visited (m : Semantics) (h : Hop) (begin finish : ℕ → ℕ) (bound : �
   far : bound < upto
 
 module _ (m : Semantics) (h : Hop) (t : Tied h) (begin finish : ℕ → ℕ) (k : Clock h begin finish) (bound : ℕ) where
-  visit-blocks : (fuel f q d o l : ℕ) → Opens h f → From m h f q → BestSoFar m h begin finish f d o l → bound < f + fuel → Visited m h begin finish bound
-  visit-blocks zero f q d o l p w b far = record { upto = f; d = d; o = o; l = l; best = b; far = omega arith }
-  visit-blocks (suc fuel) f q d o l p w b far =
+  visit_blocks : (fuel f q d o l : ℕ) → Opens h f → From m h f q → BestSoFar m h begin finish f d o l → bound < f + fuel → Visited m h begin finish bound
+  visit_blocks zero f q d o l p w b far = record { upto = f; d = d; o = o; l = l; best = b; far = omega arith }
+  visit_blocks (suc fuel) f q d o l p w b far =
       let (r, v) = from_next m h t f p in
       let up = next_later h t f in
       ⊎_elim
-      (λ g. visit-blocks fuel (next_block h f) r (finish (longest m h f) - begin q) q (longest m h f) (next_opens h t f) v
+      (λ g. visit_blocks fuel (next_block h f) r (finish (longest m h f) - begin q) q (longest m h f) (next_opens h t f) v
       (best_more m h t begin finish k f d o l q p w b g) (omega arith))
-      (λ g. visit-blocks fuel (next_block h f) r d o l (next_opens h t f) v
+      (λ g. visit_blocks fuel (next_block h f) r d o l (next_opens h t f) v
       (best_same m h t begin finish k f d o l q p w b g) (omega arith))
       (cases_lt d (finish (longest m h f) - begin q))
 
-  visit-second : ((q : ℕ) → ¬ From m h (first_block h) q) → Visited m h begin finish bound
-  visit-second none =
+  visit_second : ((q : ℕ) → ¬ From m h (first_block h) q) → Visited m h begin finish bound
+  visit_second none =
       let (r, v) = from_next m h t (first_block h) (first_opens h t) in
-      visit-blocks (bound + 1) (next_block h (first_block h)) r 0 0 0 (next_opens h t (first_block h)) v
+      visit_blocks (bound + 1) (next_block h (first_block h)) r 0 0 0 (next_opens h t (first_block h)) v
       (best_skip m h t begin finish k (first_block h) 0 0 0 (best_none m h t begin finish k) none) (omega arith)
 
-  visit-first : (q : ℕ) → From m h (first_block h) q → Visited m h begin finish bound
-  visit-first q w = visit-blocks (bound + 1) (first_block h) q 0 0 0 (first_opens h t) w (best_none m h t begin finish k) (omega arith)
+  visit_first : (q : ℕ) → From m h (first_block h) q → Visited m h begin finish bound
+  visit_first q w = visit_blocks (bound + 1) (first_block h) q 0 0 0 (first_opens h t) w (best_none m h t begin finish k) (omega arith)
 
 visit_all : (m : Semantics) (h : Hop) → Tied h → (begin finish : ℕ → ℕ) → Clock h begin finish → (bound : ℕ) → Visited m h begin finish bound
-visit_all LL h t begin finish k bound = visit-first LL h t begin finish k bound (first_block h) refl
-visit_all LF h t begin finish k bound = visit-first LF h t begin finish k bound (first_block h) refl
-visit_all FL h t begin finish k bound = visit-second FL h t begin finish k bound (first_alone h t)
-visit_all FF h t begin finish k bound = visit-second FF h t begin finish k bound (first_alone h t)
+visit_all LL h t begin finish k bound = visit_first LL h t begin finish k bound (first_block h) refl
+visit_all LF h t begin finish k bound = visit_first LF h t begin finish k bound (first_block h) refl
+visit_all FL h t begin finish k bound = visit_second FL h t begin finish k bound (first_alone h t)
+visit_all FF h t begin finish k bound = visit_second FF h t begin finish k bound (first_alone h t)
 
 figure_some_span : (m : Semantics) (s : Stage) (ss : List Stage) → Lawful s → AllByRecursion Lawful ss → (span : ℕ) → Common span (s ∷ ss) → Answer m (s ∷ ss)
 figure_some_span m s ss l ls span c =

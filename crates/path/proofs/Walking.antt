@@ -46,18 +46,18 @@ module _ (ss : List Stage) (ls : AllByRecursion Lawful ss) (j : ℕ) (there : 0 
   traced_last k h low =
       record { same = sym (back_last ss k (j + 1) h); early = omega (arith, ap (λ s. start_of s j) (last_stage_at ss k h)) }
 
-  back-here : (k x : ℕ) → k + 1 < length ss → Traced ss j (k + 1) x → (route_of (drop k ss)).back (j + 1) ≡ back_of (get_or ss k no_stage) (get_or ss (k + 1) no_stage) (x + 1)
-  back-here k x h t = back_drop ss no_stage k (j + 1) h ∙ ap (back_of (get_or ss k no_stage) (get_or ss (k + 1) no_stage)) (sym t.same)
+  back_here : (k x : ℕ) → k + 1 < length ss → Traced ss j (k + 1) x → (route_of (drop k ss)).back (j + 1) ≡ back_of (get_or ss k no_stage) (get_or ss (k + 1) no_stage) (x + 1)
+  back_here k x h t = back_drop ss no_stage k (j + 1) h ∙ ap (back_of (get_or ss k no_stage) (get_or ss (k + 1) no_stage)) (sym t.same)
 
   pub traced_there : (k x : ℕ) → k + 1 < length ss → Traced ss j (k + 1) x → 0 < back_of (get_or ss k no_stage) (get_or ss (k + 1) no_stage) (x + 1)
-  traced_there k x h t = subst (λ c. 0 < c) (back-here k x h t) (steps_back ss ls (j + 1) k (omega arith) there)
+  traced_there k x h t = subst (λ c. 0 < c) (back_here k x h t) (steps_back ss ls (j + 1) k (omega arith) there)
 
   pub traced_more : (k x n : ℕ) → k + 1 < length ss → Traced ss j (k + 1) x → n + 1 ≡ back_of (get_or ss k no_stage) (get_or ss (k + 1) no_stage) (x + 1) → Traced ss j k n
   traced_more k x n h t e =
       let b : ℕ = back_of (get_or ss k no_stage) (get_or ss (k + 1) no_stage) (x + 1) in
       let z : start_of (get_or ss k no_stage) (b - 1) ≡ start_of (get_or ss k no_stage) n = ap (start_of (get_or ss k no_stage)) (omega arith) in
       record {
-        same = e ∙ sym (back-here k x h t);
+        same = e ∙ sym (back_here k x h t);
         early = omega (arith, walk_back ss ls no_stage k x h (traced_there k x h t), t.early);
       }
 
@@ -82,8 +82,8 @@ module _ (rows : List LawfulRow) (k : ℕ) (a b : LawfulRow) (h : k + 1 < length
   inside : k + 1 < length (stages_of rows)
   inside = omega (arith, stages_length rows)
 
-  two-ahead : (x : ℕ) → ahead_of (get_or (stages_of rows) k no_stage) (get_or (stages_of rows) (k + 1) no_stage) x ≡ ahead_of (stage_in a) (stage_in b) x
-  two-ahead x =
+  two_ahead : (x : ℕ) → ahead_of (get_or (stages_of rows) k no_stage) (get_or (stages_of rows) (k + 1) no_stage) x ≡ ahead_of (stage_in a) (stage_in b) x
+  two_ahead x =
       ap (λ w. ahead_of w (get_or (stages_of rows) (k + 1) no_stage) x) (stage_read rows k a (omega arith) ea)
       ∙ ap (λ r. ahead_of (stage_in a) r x) (stage_read rows (k + 1) b h eb)
 
@@ -97,17 +97,17 @@ module _ (rows : List LawfulRow) (k : ℕ) (a b : LawfulRow) (h : k + 1 < length
 
   pub walked_hop : (i x n : ℕ) → n ≡ ahead_of (stage_in a) (stage_in b) x → Walked (stages_of rows) i k x → Walked (stages_of rows) i (k + 1) n
   walked_hop i x n e w =
-      subst (Walked (stages_of rows) i (k + 1)) (two-ahead x ∙ sym e) (walked_more (stages_of rows) (all_laws rows) i k x inside w)
+      subst (Walked (stages_of rows) i (k + 1)) (two_ahead x ∙ sym e) (walked_more (stages_of rows) (all_laws rows) i k x inside w)
 
   pub traced_early : (j x : ℕ) → Traced (stages_of rows) j (k + 1) x → start_of (stage_in b) x < 2 ^ 40
   traced_early j x t = omega (arith, t.early, ap (λ s. start_of s x) (stage_read rows (k + 1) b h eb))
 
   module _ (j : ℕ) (there : 0 < (route_of (stages_of rows)).back (j + 1)) (x : ℕ) (t : Traced (stages_of rows) j (k + 1) x) where
-    pub traced-some : 0 < back_of (stage_in a) (stage_in b) (x + 1)
-    traced-some = subst (λ c. 0 < c) (two_back (x + 1)) (traced_there (stages_of rows) (all_laws rows) j there k x inside t)
+    pub traced_some : 0 < back_of (stage_in a) (stage_in b) (x + 1)
+    traced_some = subst (λ c. 0 < c) (two_back (x + 1)) (traced_there (stages_of rows) (all_laws rows) j there k x inside t)
 
-    pub traced-hop : (n : ℕ) → n + 1 ≡ back_of (stage_in a) (stage_in b) (x + 1) → Traced (stages_of rows) j k n
-    traced-hop n e = traced_more (stages_of rows) (all_laws rows) j there k x n inside t (e ∙ sym (two_back (x + 1)))
+    pub traced_hop : (n : ℕ) → n + 1 ≡ back_of (stage_in a) (stage_in b) (x + 1) → Traced (stages_of rows) j k n
+    traced_hop n e = traced_more (stages_of rows) (all_laws rows) j there k x n inside t (e ∙ sym (two_back (x + 1)))
 
 -- The walk back has written its instances from entry k on.
 abbrev pub Written : List LawfulRow → ℕ → ℕ → List ℕ → Type 0

@@ -24,17 +24,17 @@ pub found_in_range : (records : List Record) (n : ℕ) (r : Record) → Some r �
 unfolding metronome_record
 found_in_range records n r e = by_number (ltb n 128) (slice_get records n) e
   where
-    by-test : (b : Bool) (x : Record) → in_range x ≡ b → Some r ≡ cond b (Some x) None → in_range r ≡ true
-    by-test true x h e = let same : r ≡ x = cc in ap in_range same ∙ h
-    by-test false x h e = cc
+    by_test : (b : Bool) (x : Record) → in_range x ≡ b → Some r ≡ cond b (Some x) None → in_range r ≡ true
+    by_test true x h e = let same : r ≡ x = cc in ap in_range same ∙ h
+    by_test false x h e = cc
 
-    by-record : (o : Option Record) → Some r ≡ elim o [ None ↦ None | Some x ↦ cond (in_range x) (Some x) None ] → in_range r ≡ true
-    by-record None e = cc
-    by-record (Some x) e = by-test (in_range x) x refl e
+    by_record : (o : Option Record) → Some r ≡ elim o [ None ↦ None | Some x ↦ cond (in_range x) (Some x) None ] → in_range r ≡ true
+    by_record None e = cc
+    by_record (Some x) e = by_test (in_range x) x refl e
 
     by_number : (b : Bool) (o : Option Record)
         → Some r ≡ cond b (elim o [ None ↦ None | Some x ↦ cond (in_range x) (Some x) None ]) None → in_range r ≡ true
-    by_number true o e = by-record o e
+    by_number true o e = by_record o e
     by_number false o e = cc
 
 -- where all other tests pass, the third decides

@@ -23,23 +23,23 @@ module _ (n r : ℕ) (s : Stage) (l : Lawful s) (i : ℕ) where
   below_at : n * (i % count_of s) + r + n * (i / count_of s) * count_of s ≡ n * i + r
   below_at = omega (arith, ap (λ x. n * x + r) (div-add-mod' i (count_of s)))
 
-  thin-cycle : (thin_stage n r s).cycle ≡ n * s.cycle
+  thin_cycle : (thin_stage n r s).cycle ≡ n * s.cycle
   unfolding thin_stage
-  thin-cycle = refl
+  thin_cycle = refl
 
-  thin-starts : start_of (thin_stage n r s) i ≡ start_of s (n * i + r)
-  thin-starts =
+  thin_starts : start_of (thin_stage n r s) i ≡ start_of s (n * i + r)
+  thin_starts =
       let above = start_by (thin_stage n r s) (count_of s) i (thin_count n r s) in
-      let cycles = ap (λ x. i / count_of s * x) thin-cycle in
+      let cycles = ap (λ x. i / count_of s * x) thin_cycle in
       let mark = thin_start n r s (i % count_of s) (mod-lt i l.count_low) in
       let later = start_later s l (n * (i / count_of s)) (n * (i % count_of s) + r) in
       let here = ap (start_of s) below_at in
       omega arith
 
-  thin-stops : stop_of (thin_stage n r s) i ≡ stop_of s (n * i + r)
-  thin-stops =
+  thin_stops : stop_of (thin_stage n r s) i ≡ stop_of s (n * i + r)
+  thin_stops =
       let above = stop_by (thin_stage n r s) (count_of s) i (thin_count n r s) in
-      let cycles = ap (λ x. i / count_of s * x) thin-cycle in
+      let cycles = ap (λ x. i / count_of s * x) thin_cycle in
       let mark = thin_stop n r s (i % count_of s) (mod-lt i l.count_low) in
       let later = stop_later s l (n * (i / count_of s)) (n * (i % count_of s) + r) in
       let here = ap (stop_of s) below_at in
@@ -52,19 +52,19 @@ every_thinning n r s some few below l fits =
       n_cycles = refl;
       same_rank = refl;
       same_count = thin_count n r s;
-      starts_below = thin-starts n r s l;
-      stops_below = thin-stops n r s l;
+      starts_below = thin_starts n r s l;
+      stops_below = thin_stops n r s l;
     }
 
 module _ (d : ℕ) (s : Stage) (l : Lawful s) where
   -- mark a above is mark b below, which left the cycle and comes back one cycle earlier
   module _ (a b : ℕ) (e : staying d s + a ≡ b) (k : b < count_of s) where
-    wraps-start : (mark_of (phase_stage d s) a).0 + s.cycle ≡ (mark_of s b).0 + d % s.cycle
-    wraps-start =
+    wraps_start : (mark_of (phase_stage d s) a).0 + s.cycle ≡ (mark_of s b).0 + d % s.cycle
+    wraps_start =
         omega (arith, phase_start d s a (omega arith), ap (start_of s) e, mark_start s l b k, leaves d s l b (omega arith))
 
-    wraps-stop : (mark_of (phase_stage d s) a).1 + s.cycle ≡ (mark_of s b).1 + d % s.cycle
-    wraps-stop =
+    wraps_stop : (mark_of (phase_stage d s) a).1 + s.cycle ≡ (mark_of s b).1 + d % s.cycle
+    wraps_stop =
         omega (
           arith,
           phase_stop d s a (omega arith),
@@ -77,32 +77,32 @@ module _ (d : ℕ) (s : Stage) (l : Lawful s) where
 
   -- mark a above is mark b below, which stays in the cycle
   module _ (a b : ℕ) (e : staying d s + a ≡ b + count_of s) (k : b < staying d s) where
-    stays-start : (mark_of (phase_stage d s) a).0 ≡ (mark_of s b).0 + d % s.cycle
-    stays-start =
+    stays_start : (mark_of (phase_stage d s) a).0 ≡ (mark_of s b).0 + d % s.cycle
+    stays_start =
         let w = staying_within d s l in
         omega (arith, phase_start d s a (omega arith), ap (start_of s) e, mark_start s l b (omega arith), (in_order s l).start_shift b)
 
-    stays-stop : (mark_of (phase_stage d s) a).1 ≡ (mark_of s b).1 + d % s.cycle
-    stays-stop =
+    stays_stop : (mark_of (phase_stage d s) a).1 ≡ (mark_of s b).1 + d % s.cycle
+    stays_stop =
         let w = staying_within d s l in
         omega (arith, phase_stop d s a (omega arith), ap (stop_of s) e, mark_stop s l b (omega arith), (in_order s l).stop_shift b)
 
   -- the time below of a time before the shift, and of one from the shift on
-  time-wraps : (time : ℕ) → time < d % s.cycle → time_below d s time ≡ time + s.cycle - d % s.cycle
-  time-wraps time h = mod-eq_of_lt (omega (arith, shift_low d s l))
+  time_wraps : (time : ℕ) → time < d % s.cycle → time_below d s time ≡ time + s.cycle - d % s.cycle
+  time_wraps time h = mod-eq_of_lt (omega (arith, shift_low d s l))
 
-  time-stays : (time : ℕ) → d % s.cycle ≤ time → time < s.cycle → time_below d s time ≡ time - d % s.cycle
-  time-stays time h k =
+  time_stays : (time : ℕ) → d % s.cycle ≤ time → time < s.cycle → time_below d s time ≡ time - d % s.cycle
+  time_stays time h k =
       let at : time + s.cycle - d % s.cycle ≡ time - d % s.cycle + s.cycle = omega arith in
       ap (λ x. x % s.cycle) at ∙ (add-mod_right (time - d % s.cycle) s.cycle ∙ mod-eq_of_lt (omega arith))
 
   -- a mark leaves the cycle just where its number says so
-  leaves-from : (b : ℕ) → s.cycle ≤ (mark_of s b).0 + d % s.cycle → staying d s ≤ b
-  leaves-from b h =
+  leaves_from : (b : ℕ) → s.cycle ≤ (mark_of s b).0 + d % s.cycle → staying d s ≤ b
+  leaves_from b h =
       ⊎_elim (λ k. omega (arith, before_early (s.cycle - d % s.cycle) s.marks b k)) (λ k. k) (cases_lt b (staying d s))
 
-  stays-before : (b : ℕ) → b < count_of s → (mark_of s b).0 + d % s.cycle < s.cycle → b < staying d s
-  stays-before b h k = ⊎_elim (λ e. e) (λ e. omega (arith, mark_start s l b h, leaves d s l b e)) (cases_lt b (staying d s))
+  stays_before : (b : ℕ) → b < count_of s → (mark_of s b).0 + d % s.cycle < s.cycle → b < staying d s
+  stays_before b h k = ⊎_elim (λ e. e) (λ e. omega (arith, mark_start s l b h, leaves d s l b e)) (cases_lt b (staying d s))
 
   to_above : (time span : ℕ) → time < s.cycle → Runs s (time_below d s time) span → Runs (phase_stage d s) time span
   to_above time span h run =
@@ -111,24 +111,24 @@ module _ (d : ℕ) (s : Stage) (l : Lawful s) where
       let w = staying_within d s l in
       ⊎_elim
       (λ early.
-      let t = time-wraps time early in
-      let from : staying d s ≤ b = leaves-from b (omega (arith, run.starts)) in
+      let t = time_wraps time early in
+      let from : staying d s ≤ b = leaves_from b (omega (arith, run.starts)) in
       let e : staying d s + (b - staying d s) ≡ b = omega arith in
       record {
         at = b - staying d s;
         present = omega (arith, run.present);
-        starts = omega (arith, run.starts, wraps-start (b - staying d s) b e run.present);
-        stops = omega (arith, run.stops, wraps-stop (b - staying d s) b e run.present);
+        starts = omega (arith, run.starts, wraps_start (b - staying d s) b e run.present);
+        stops = omega (arith, run.stops, wraps_stop (b - staying d s) b e run.present);
       })
       (λ late.
-      let t = time-stays time late h in
-      let from : b < staying d s = stays-before b run.present (omega (arith, run.starts)) in
+      let t = time_stays time late h in
+      let from : b < staying d s = stays_before b run.present (omega (arith, run.starts)) in
       let e : staying d s + (b + count_of s - staying d s) ≡ b + count_of s = omega arith in
       record {
         at = b + count_of s - staying d s;
         present = omega arith;
-        starts = omega (arith, run.starts, stays-start (b + count_of s - staying d s) b e from);
-        stops = omega (arith, run.stops, stays-stop (b + count_of s - staying d s) b e from);
+        starts = omega (arith, run.starts, stays_start (b + count_of s - staying d s) b e from);
+        stops = omega (arith, run.stops, stays_stop (b + count_of s - staying d s) b e from);
       })
       (cases_lt time (d % s.cycle))
 
@@ -139,27 +139,27 @@ module _ (d : ℕ) (s : Stage) (l : Lawful s) where
       let w = staying_within d s l in
       ⊎_elim
       (λ k.
-      let start = wraps-start a (staying d s + a) refl k in
+      let start = wraps_start a (staying d s + a) refl k in
       let low = l.start_in_cycle (staying d s + a) k in
-      let t = time-wraps time (omega (arith, run.starts)) in
+      let t = time_wraps time (omega (arith, run.starts)) in
       record {
         at = staying d s + a;
         present = k;
         starts = omega (arith, run.starts);
-        stops = omega (arith, run.starts, run.stops, wraps-stop a (staying d s + a) refl k);
+        stops = omega (arith, run.starts, run.stops, wraps_stop a (staying d s + a) refl k);
       })
       (λ k.
       let b : ℕ = staying d s + a - count_of s in
       let in_time : b < staying d s = omega (arith, run.present) in
       let e : staying d s + a ≡ b + count_of s = omega arith in
-      let start = stays-start a b e in_time in
+      let start = stays_start a b e in_time in
       let low = before_early (s.cycle - d % s.cycle) s.marks b in_time in
-      let t = time-stays time (omega (arith, run.starts)) (omega (arith, run.starts)) in
+      let t = time_stays time (omega (arith, run.starts)) (omega (arith, run.starts)) in
       record {
         at = b;
         present = omega arith;
         starts = omega (arith, run.starts);
-        stops = omega (arith, run.starts, run.stops, stays-stop a b e in_time);
+        stops = omega (arith, run.starts, run.stops, stays_stop a b e in_time);
       })
       (cases_lt (staying d s + a) (count_of s))
 

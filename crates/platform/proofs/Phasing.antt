@@ -20,11 +20,11 @@ pub halved_first : (s : Stage) (end high : ℕ) → count_of s ≤ high → Halv
 halved_first s end high h = record { early = λ a k. absurd (omega arith); late = λ k. absurd (omega arith) }
 
 module _ (s : Stage) (l : Lawful s) (end low high : ℕ) (h : Halved s end low high) where
-  marks-rise : (a b : ℕ) → a ≤ b → b < count_of s → (mark_of s a).0 ≤ (mark_of s b).0
-  marks-rise a b up k = omega (arith, mark_start s l a (omega arith), mark_start s l b k, starts_not_fall s l a b up)
+  marks_rise : (a b : ℕ) → a ≤ b → b < count_of s → (mark_of s a).0 ≤ (mark_of s b).0
+  marks_rise a b up k = omega (arith, mark_start s l a (omega arith), mark_start s l b k, starts_not_fall s l a b up)
 
   pub halved_up : (middle : ℕ) → middle < count_of s → (mark_of s middle).0 < end → Halved s end (middle + 1) high
-  halved_up middle k e = record { early = λ a up. omega (arith, marks-rise a middle (omega arith) k); late = h.late }
+  halved_up middle k e = record { early = λ a up. omega (arith, marks_rise a middle (omega arith) k); late = h.late }
 
   pub halved_down : (middle : ℕ) → end ≤ (mark_of s middle).0 → Halved s end low middle
   halved_down middle e = record { early = h.early; late = λ k. e }
@@ -40,28 +40,28 @@ halved_done s end n h within =
 
 -- the turns of that search over a platform
 module _ (o : Option Stage) (cycle count : ℕ) (p : Shaped o cycle count) (end : ℕ) where
-  abbrev pub Halved-in : ℕ → ℕ → Type 0
-  Halved-in low high = (s : Stage) → o ≡ Some s → Halved s end low high
+  abbrev pub HalvedIn : ℕ → ℕ → Type 0
+  HalvedIn low high = (s : Stage) → o ≡ Some s → Halved s end low high
 
-  of-stage : (low high : ℕ) → Halved p.stage end low high → Halved-in low high
-  of-stage low high h s e =
+  of_stage : (low high : ℕ) → Halved p.stage end low high → HalvedIn low high
+  of_stage low high h s e =
       let both : Some p.stage ≡ Some s = sym p.present ∙ e in
       let same : p.stage ≡ s = cc in
       subst (λ x. Halved x end low high) same h
 
-  module _ (low high middle start stop : ℕ) (h : Halved-in low high) (e : Some (start, stop) ≡ marked o middle) where
-    pub search-up : start < end → Halved-in (middle + 1) high
-    search-up k =
+  module _ (low high middle start stop : ℕ) (h : HalvedIn low high) (e : Some (start, stop) ≡ marked o middle) where
+    pub search_up : start < end → HalvedIn (middle + 1) high
+    search_up k =
         let mark = told o cycle count p middle start stop e in
-        of-stage (middle + 1) high
+        of_stage (middle + 1) high
         (halved_up p.stage p.lawful end low high (h p.stage p.present) middle (omega (arith, p.count_is)) (omega arith))
 
-    pub search-down : end ≤ start → Halved-in low middle
-    search-down k =
+    pub search_down : end ≤ start → HalvedIn low middle
+    search_down k =
         let mark = told o cycle count p middle start stop e in
-        of-stage low middle (halved_down p.stage p.lawful end low high (h p.stage p.present) middle (omega arith))
+        of_stage low middle (halved_down p.stage p.lawful end low high (h p.stage p.present) middle (omega arith))
 
-  pub search_done : (low high : ℕ) → low ≤ high → high ≤ count → high ≤ low → Halved-in low high → low ≡ marks_before end o
+  pub search_done : (low high : ℕ) → low ≤ high → high ≤ count → high ≤ low → HalvedIn low high → low ≡ marks_before end o
   search_done low high up within met h =
       let at : Halved p.stage end low low = subst (Halved p.stage end low) (omega arith) (h p.stage p.present) in
       halved_done p.stage end low at (omega (arith, p.count_is)) ∙ sym (ap (marks_before end) p.present)
@@ -91,20 +91,20 @@ module _ (d : ℕ) (o : Option Stage) (cycle count : ℕ) (p : Shaped o cycle co
     first_is =
         e ∙ (ap (marks_before (cycle - d % cycle)) p.present ∙ ap (λ c. before (c - d % c) p.stage.marks) (sym p.cycle_is))
 
-    pub first-soon : a < count → first + a < 16 * count
-    first-soon k = omega (arith, first_is, staying_within d p.stage p.lawful, p.count_is)
+    pub first_soon : a < count → first + a < 16 * count
+    first_soon k = omega (arith, first_is, staying_within d p.stage p.lawful, p.count_is)
 
     module _ (start stop : ℕ) (k : a < count) (told_at : Some (start, stop) ≡ instanced o (first + a)) where
-      at-instance : ◌≡◌ {A = ℕ × ℕ} (start, stop) (start_of p.stage (staying d p.stage + a), stop_of p.stage (staying d p.stage + a))
-      at-instance =
+      at_instance : ◌≡◌ {A = ℕ × ℕ} (start, stop) (start_of p.stage (staying d p.stage + a), stop_of p.stage (staying d p.stage + a))
+      at_instance =
           instance_is p.stage (staying d p.stage + a) start stop
           (told_at ∙ (ap (λ x. instanced x (first + a)) p.present ∙ ap (λ x. instanced (Some p.stage) (x + a)) first_is))
 
       start_is : start ≡ start_of p.stage (staying d p.stage + a)
-      start_is = ap (λ m. m.0) at-instance
+      start_is = ap (λ m. m.0) at_instance
 
       stop_is : stop ≡ stop_of p.stage (staying d p.stage + a)
-      stop_is = ap (λ m. m.1) at-instance
+      stop_is = ap (λ m. m.1) at_instance
 
       pub placed : Placed cycle (d % cycle) start stop
       placed =
@@ -124,8 +124,8 @@ module _ (d : ℕ) (o : Option Stage) (cycle count : ℕ) (p : Shaped o cycle co
             stop_high = omega (arith, order.stop_before_next i, order.next_within_cycle i);
           }
 
-      pub phase-marked : Some (start + d % cycle - cycle, stop + d % cycle - cycle) ≡ marked (phased d o) a
-      phase-marked =
+      pub phase_marked : Some (start + d % cycle - cycle, stop + d % cycle - cycle) ≡ marked (phased d o) a
+      phase_marked =
           let s = p.stage in
           let in_count : a < count_of s = omega (arith, p.count_is) in
           let above : a < count_of (phase_stage d s) = omega (arith, phase_count d s) in

@@ -76,17 +76,17 @@ whole_high i cycle count soon k c =
 
 module _ (o : Option Stage) (cycle count : ℕ) (p : Shaped o cycle count) (i start stop : ℕ)
     (e : Some (start, stop) ≡ marked o (i % count)) where
-  at-start : i / count * cycle + start ≡ start_of p.stage i
-  at-start =
+  at_start : i / count * cycle + start ≡ start_of p.stage i
+  at_start =
       let by = start_by p.stage count i p.count_is in
       let c = ap (λ x. i / count * x) p.cycle_is in
       omega (arith, (told o cycle count p (i % count) start stop e).start_is)
 
-  at-stop : i / count * cycle + stop ≡ stop_of p.stage i
-  at-stop =
+  at_stop : i / count * cycle + stop ≡ stop_of p.stage i
+  at_stop =
       let by = stop_by p.stage count i p.count_is in
       let c = ap (λ x. i / count * x) p.cycle_is in
       omega (arith, (told o cycle count p (i % count) start stop e).stop_is)
 
   pub instance_told : Some (i / count * cycle + start, i / count * cycle + stop) ≡ instanced o i
-  instance_told = rw (at-start, at-stop) (sym (ap (λ x. instanced x i) p.present))
+  instance_told = rw (at_start, at_stop) (sym (ap (λ x. instanced x i) p.present))

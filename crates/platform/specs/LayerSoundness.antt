@@ -67,13 +67,13 @@ module _ (s : Stage) (l : Lawful s) where
 
 module _ (n r : ℕ) (s : Stage) (l : Lawful s) (some : 1 ≤ n) (below : r < n) (fits : n * s.cycle ≤ 100_000_000) where
   -- the instances below of two marks, one after the other
-  thin-rises : (a b : ℕ) → a < b → n * a + r < n * b
-  thin-rises a b h = omega (arith, mul-le-mul_left n h)
+  thin_rises : (a b : ℕ) → a < b → n * a + r < n * b
+  thin_rises a b h = omega (arith, mul-le-mul_left n h)
 
-  thin-last : (mark_of (thin_stage n r s) (count_of s - 1)).1 ≤ n * s.cycle + (mark_of (thin_stage n r s) 0).0
-  thin-last =
+  thin_last : (mark_of (thin_stage n r s) (count_of s - 1)).1 ≤ n * s.cycle + (mark_of (thin_stage n r s) 0).0
+  thin_last =
       let k = l.count_low in
-      let up : n * (count_of s - 1) + r < n * count_of s = thin-rises (count_of s - 1) (count_of s) (omega arith) in
+      let up : n * (count_of s - 1) + r < n * count_of s = thin_rises (count_of s - 1) (count_of s) (omega arith) in
       let last = stop_before_later s l (n * (count_of s - 1) + r) (n * 0 + r + n * count_of s) (omega arith) in
       omega (arith, thin_stop n r s (count_of s - 1) (omega arith), thin_start n r s 0 (omega arith), start_later s l n (n * 0 + r))
 
@@ -89,15 +89,15 @@ module _ (n r : ℕ) (s : Stage) (l : Lawful s) (some : 1 ≤ n) (below : r < n)
         rank_high = l.rank_high;
         start_in_cycle = λ a h.
             let h' : a < count_of s = omega arith in
-            rw (thin_start n r s a h') (start_before_cycle s l n (n * a + r) (omega (arith, thin-rises a (count_of s) h')));
+            rw (thin_start n r s a h') (start_before_cycle s l n (n * a + r) (omega (arith, thin_rises a (count_of s) h')));
         stop_after_start = λ a h.
             let h' : a < count_of s = omega arith in
             rw (thin_start n r s a h', thin_stop n r s a h') ((in_order s l).start_before_stop (n * a + r));
         start_after_stop = λ a h.
             let h' : a + 1 < count_of s = omega arith in
-            let up : n * a + r < n * (a + 1) + r = omega (arith, thin-rises a (a + 1) (omega arith)) in
+            let up : n * a + r < n * (a + 1) + r = omega (arith, thin_rises a (a + 1) (omega arith)) in
             rw (thin_stop n r s a (omega arith), thin_start n r s (a + 1) h') (stop_before_later s l (n * a + r) (n * (a + 1) + r) up);
-        last_stop_in_time = rw k thin-last;
+        last_stop_in_time = rw k thin_last;
       }
 
 -- the parts of the test
@@ -203,8 +203,8 @@ module _ (d : ℕ) (s : Stage) (l : Lawful s) where
       ))
       (cases_lt (staying d s + a) (count_of s))
 
-  phase-last : (mark_of (phase_stage d s) (count_of s - 1)).1 ≤ s.cycle + (mark_of (phase_stage d s) 0).0
-  phase-last =
+  phase_last : (mark_of (phase_stage d s) (count_of s - 1)).1 ≤ s.cycle + (mark_of (phase_stage d s) 0).0
+  phase_last =
       let k = l.count_low in
       omega (
         arith,
@@ -240,7 +240,7 @@ module _ (d : ℕ) (s : Stage) (l : Lawful s) where
               phase_start d s (a + 1) h',
               stop_before_later s l (staying d s + a) (staying d s + (a + 1)) (omega arith),
             );
-        last_stop_in_time = rw k phase-last;
+        last_stop_in_time = rw k phase_last;
       }
 
 pub phased_sound : (d number : ℕ) (o : Option Stage) → Sound number o → Sound number (phased d o)

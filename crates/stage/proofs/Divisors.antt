@@ -23,9 +23,9 @@ gcd_step a b g h step =
     }
 
 -- a / g × b is the least common multiple
-module _ (a b g : ℕ) (a-pos : 0 < a) (b-pos : 0 < b) (gcd : GreatestCommonDivisor a b g) where
-  g-pos : 0 < g
-  g-pos = pos_of_dvd_of_pos gcd.divides_first a-pos
+module _ (a b g : ℕ) (a_pos : 0 < a) (b_pos : 0 < b) (gcd : GreatestCommonDivisor a b g) where
+  g_pos : 0 < g
+  g_pos = pos_of_dvd_of_pos gcd.divides_first a_pos
 
   abbrev pub product : ℕ
   product = a / g * b
@@ -42,7 +42,7 @@ module _ (a b g : ℕ) (a-pos : 0 < a) (b-pos : 0 < b) (gcd : GreatestCommonDivi
 
   pub product_least : (n : ℕ) → Divides a n → Divides b n → Divides product n
   product_least n ha hb =
-      dvd_of_mul-dvd-mul_left product g-pos
+      dvd_of_mul-dvd-mul_left product g_pos
       (rw g_times
       (gcd.greatest (a * b) n (mul-dvd-mul_left b a hb) (rw (mul_comm a b) (mul-dvd-mul_left a b ha))))
 
@@ -62,19 +62,19 @@ pub pair_second : (a b m : ℕ) → CommonMultiple (a ∷ b ∷ []) m → Divide
 pair_second a b m h = h.divided 1 (omega arith)
 
 pub pair_least : (a b g : ℕ) → 0 < a → 0 < b → GreatestCommonDivisor a b g → LeastCommonMultiple (a ∷ b ∷ []) (a / g * b)
-pair_least a b g a-pos b-pos gcd =
+pair_least a b g a_pos b_pos gcd =
     record {
-      common = pair_common a b (a / g * b) pos (first_divides a b g a-pos b-pos gcd) (dvd-mul_left b (a / g));
-      least = λ n h. product_least a b g a-pos b-pos gcd n (pair_first a b n h) (pair_second a b n h);
+      common = pair_common a b (a / g * b) pos (first_divides a b g a_pos b_pos gcd) (dvd-mul_left b (a / g));
+      least = λ n h. product_least a b g a_pos b_pos gcd n (pair_first a b n h) (pair_second a b n h);
     }
   where
     pos : 0 < a / g * b
     pos =
         ⊎_elim (λ k. k)
         (λ k.
-        let all : 0 < a * b = mul-pos a-pos b-pos in
+        let all : 0 < a * b = mul-pos a_pos b_pos in
         let none : a / g * b ≡ 0 = omega arith in
-        omega (arith, g_times a b g a-pos b-pos gcd, ap (λ n. g * n) none))
+        omega (arith, g_times a b g a_pos b_pos gcd, ap (λ n. g * n) none))
         (cases_lt 0 (a / g * b))
 
 -- m is the least common multiple of the first i cycles

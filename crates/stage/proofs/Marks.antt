@@ -5,7 +5,7 @@ use mathlib.Core.Logic.{∥∥₁_elim}
 use mathlib.Core.HLevel.{Π_prop}
 use native.Mathlib.Bridge.{le_prop}
 use Rattle.std.proofs.lemmas.List.FromFn.{length-map-range_with_len, get_or-map-range_with_len}
-use Rattle.stage.specs.Stages.{Stage, Lawful, lawful-prop, count_of, mark_of, start_of, stop_of}
+use Rattle.stage.specs.Stages.{Stage, Lawful, lawful_prop, count_of, mark_of, start_of, stop_of}
 use Rattle.stage.specs.Rows.{stage_of, time_of, LawfulMark}
 use Rattle.stage.specs.declared.row.Row.{Row}
 
@@ -23,21 +23,21 @@ module _ (r : Row) where
   stop_is a h = ap (λ m. m.1) (mark_is a h)
 
   -- the stop of the mark before mark a, or 0
-  abbrev pub floor-at : ℕ → ℕ
-  floor-at zero = 0
-  floor-at (suc a) = get_or r.stops a 0
+  abbrev pub floor_at : ℕ → ℕ
+  floor_at zero = 0
+  floor_at (suc a) = get_or r.stops a 0
 
   -- each of the first n marks keeps the laws within the cycle
   abbrev pub Kept : ℕ → Type 0
-  Kept n = (a : ℕ) → a < n → LawfulMark r.cycle (floor-at a) (get_or r.starts a 0) (get_or r.stops a 0)
+  Kept n = (a : ℕ) → a < n → LawfulMark r.cycle (floor_at a) (get_or r.starts a 0) (get_or r.stops a 0)
 
   pub to_lawful : 0 < r.cycle → r.cycle ≤ 100_000_000 → 0 < r.count → r.count ≤ 48 → r.rank ≤ 255
-      → Kept r.count → floor-at r.count ≤ r.cycle + get_or r.starts 0 0 → Lawful (stage_of r)
+      → Kept r.count → floor_at r.count ≤ r.cycle + get_or r.starts 0 0 → Lawful (stage_of r)
   to_lawful c0 c1 k0 k1 r1 kept over =
       let k = count_is in
       let last : (mark_of (stage_of r) (r.count - 1)).1 ≤ r.cycle + (mark_of (stage_of r) 0).0 =
       rw (stop_is (r.count - 1) (omega arith), start_is 0 (omega arith))
-      (subst (λ n. n ≤ r.cycle + get_or r.starts 0 0) (floor-last r.count k0) over) in
+      (subst (λ n. n ≤ r.cycle + get_or r.starts 0 0) (floor_last r.count k0) over) in
       record {
         cycle_low = c0;
         cycle_high = c1;
@@ -55,9 +55,9 @@ module _ (r : Row) where
         last_stop_in_time = subst (λ n. (mark_of (stage_of r) (n - 1)).1 ≤ r.cycle + (mark_of (stage_of r) 0).0) (sym k) last;
       }
     where
-      floor-last : (n : ℕ) → 0 < n → floor-at n ≡ get_or r.stops (n - 1) 0
-      floor-last zero h = omega arith
-      floor-last (suc n) h = let e : n ≡ suc n - 1 = omega arith in ap (λ m. get_or r.stops m 0) e
+      floor_last : (n : ℕ) → 0 < n → floor_at n ≡ get_or r.stops (n - 1) 0
+      floor_last zero h = omega arith
+      floor_last (suc n) h = let e : n ≡ suc n - 1 = omega arith in ap (λ m. get_or r.stops m 0) e
 
   pub from_lawful : Lawful (stage_of r) → Kept r.count
   from_lawful l zero h =
@@ -78,10 +78,10 @@ module _ (r : Row) where
         stops_later = omega (arith, start_is (suc a) h, stop_is (suc a) h, l.stop_after_start (suc a) h');
       }
 
-  pub last_in_time : Lawful (stage_of r) → floor-at r.count ≤ r.cycle + get_or r.starts 0 0
+  pub last_in_time : Lawful (stage_of r) → floor_at r.count ≤ r.cycle + get_or r.starts 0 0
   last_in_time l = go r.count refl
     where
-      go : (n : ℕ) → r.count ≡ n → floor-at n ≤ r.cycle + get_or r.starts 0 0
+      go : (n : ℕ) → r.count ≡ n → floor_at n ≤ r.cycle + get_or r.starts 0 0
       go zero e = omega (arith, count_is, l.count_low)
       go (suc n) e =
           let k = count_is in
@@ -100,7 +100,7 @@ pub record Ranges (r : Row) : Type 0 where
 pub laws_of : (s : Stage) → ∥ Lawful s ∥₁ → Lawful s
 laws_of s t =
     ∥∥₁_elim t
-    (lawful-prop le_prop le_prop le_prop le_prop le_prop
+    (lawful_prop le_prop le_prop le_prop le_prop le_prop
     (Π_prop (λ a. Π_prop (λ h. le_prop)))
     (Π_prop (λ a. Π_prop (λ h. le_prop)))
     (Π_prop (λ a. Π_prop (λ h. le_prop)))

@@ -30,60 +30,60 @@ module _ (s : Stage) (l : Lawful s) where
       let at' : start_of s (0 * count_of s + a) ≡ (mark_of s a).0 = omega arith in
       subst (λ i. start_of s i ≡ (mark_of s a).0) (omega arith) at'
 
-  marks-rise : (a b : ℕ) → a ≤ b → b < count_of s → (mark_of s a).0 ≤ (mark_of s b).0
-  marks-rise a b h k = omega (arith, mark_start a (omega arith), mark_start b k, starts_not_fall a b h)
+  marks_rise : (a b : ℕ) → a ≤ b → b < count_of s → (mark_of s a).0 ≤ (mark_of s b).0
+  marks_rise a b h k = omega (arith, mark_start a (omega arith), mark_start b k, starts_not_fall a b h)
 
   pub split_none : (time : ℕ) → time ≤ (mark_of s 0).0 → Split s time 0
   split_none time h =
-      record { within = omega arith; early = λ a z. omega arith; late = λ a z k. omega (arith, marks-rise 0 a (omega arith) k) }
+      record { within = omega arith; early = λ a z. omega arith; late = λ a z k. omega (arith, marks_rise 0 a (omega arith) k) }
 
   pub split_latest : (before a : ℕ) → Latest s before a → Split s (before + 1) (a + 1)
   split_latest before a h =
       record {
         within = omega (arith, h.present);
-        early = λ b z. omega (arith, marks-rise b a (omega arith) h.present, h.started);
+        early = λ b z. omega (arith, marks_rise b a (omega arith) h.present, h.started);
         late = λ b z k. ⊎_elim (λ in_time. omega (arith, h.last b k (omega arith))) (λ not_yet. omega arith) (cases_lt (mark_of s b).0 (before + 1));
       }
 
   -- the first instance of cycle q + 1, and the last of cycle q
-  next-cycle : (q : ℕ) → start_of s ((q + 1) * count_of s) ≡ (q + 1) * s.cycle + (mark_of s 0).0
-  next-cycle q = subst (λ i. start_of s i ≡ (q + 1) * s.cycle + (mark_of s 0).0) (omega arith) (start_at s (q + 1) 0 (omega arith))
+  next_cycle : (q : ℕ) → start_of s ((q + 1) * count_of s) ≡ (q + 1) * s.cycle + (mark_of s 0).0
+  next_cycle q = subst (λ i. start_of s i ≡ (q + 1) * s.cycle + (mark_of s 0).0) (omega arith) (start_at s (q + 1) 0 (omega arith))
 
-  before-cycle : (q i : ℕ) → i < q * count_of s → start_of s i < q * s.cycle
-  before-cycle zero i h = omega (arith, zero-mul (count_of s))
-  before-cycle (suc q) i h =
+  before_cycle : (q i : ℕ) → i < q * count_of s → start_of s i < q * s.cycle
+  before_cycle zero i h = omega (arith, zero-mul (count_of s))
+  before_cycle (suc q) i h =
       let k : count_of s - 1 < count_of s = omega (arith, l.count_low) in
       let at = start_at s q (count_of s - 1) k in
       let low = l.start_in_cycle (count_of s - 1) k in
       let up : i ≤ q * count_of s + (count_of s - 1) = omega (arith, l.count_low) in
       omega (arith, starts_not_fall i (q * count_of s + (count_of s - 1)) up)
 
-  earlier-at : (q time n : ℕ) → Split s time n → (i : ℕ) → i < q * count_of s + n → start_of s i < q * s.cycle + time
-  earlier-at q time zero h i below = omega (arith, before-cycle q i (omega arith))
-  earlier-at q time (suc a) h i below =
+  earlier_at : (q time n : ℕ) → Split s time n → (i : ℕ) → i < q * count_of s + n → start_of s i < q * s.cycle + time
+  earlier_at q time zero h i below = omega (arith, before_cycle q i (omega arith))
+  earlier_at q time (suc a) h i below =
       let k : a < count_of s = omega (arith, h.within) in
       omega (arith, starts_not_fall i (q * count_of s + a) (omega arith), start_at s q a k, h.early a (omega arith))
 
-  later-at : (q time n : ℕ) → time < s.cycle → Split s time n → (i : ℕ) → q * count_of s + n ≤ i → q * s.cycle + time ≤ start_of s i
-  later-at q time n t h i above =
+  later_at : (q time n : ℕ) → time < s.cycle → Split s time n → (i : ℕ) → q * count_of s + n ≤ i → q * s.cycle + time ≤ start_of s i
+  later_at q time n t h i above =
       ⊎_elim
       (λ k. omega (arith, starts_not_fall (q * count_of s + n) i above, start_at s q n k, h.late n (omega arith) k))
       (λ k.
       let at : (q + 1) * count_of s ≤ i = omega arith in
-      omega (arith, starts_not_fall ((q + 1) * count_of s) i at, next-cycle q))
+      omega (arith, starts_not_fall ((q + 1) * count_of s) i at, next_cycle q))
       (cases_lt n (count_of s))
 
-  first-at : (q time n : ℕ) → time < s.cycle → Split s time n → FirstFrom s (q * s.cycle + time) (q * count_of s + n)
-  first-at q time n t h =
+  first_at : (q time n : ℕ) → time < s.cycle → Split s time n → FirstFrom s (q * s.cycle + time) (q * count_of s + n)
+  first_at q time n t h =
       record {
-        earlier = earlier-at q time n h;
-        later = λ i below. ⊎_elim (λ k. k) (λ k. omega (arith, later-at q time n t h i k)) (cases_lt i (q * count_of s + n));
+        earlier = earlier_at q time n h;
+        later = λ i below. ⊎_elim (λ k. k) (λ k. omega (arith, later_at q time n t h i k)) (cases_lt i (q * count_of s + n));
       }
 
   pub first_from : (time n : ℕ) → Split s (time % s.cycle) n → FirstFrom s time (time / s.cycle * count_of s + n)
   first_from time n h =
       subst (λ t. FirstFrom s t (time / s.cycle * count_of s + n)) (div-add-mod' time s.cycle)
-      (first-at (time / s.cycle) (time % s.cycle) n (mod-lt time l.cycle_low) h)
+      (first_at (time / s.cycle) (time % s.cycle) n (mod-lt time l.cycle_low) h)
 
   -- there are at most as many instances before a time as microseconds
   pub first_from_low : (time n : ℕ) → FirstFrom s time n → n ≤ time
@@ -92,7 +92,7 @@ module _ (s : Stage) (l : Lawful s) where
 
   pub whole_low : (time : ℕ) → time / s.cycle * count_of s ≤ time
   whole_low time =
-      let zeroth = first-at (time / s.cycle) 0 0 l.cycle_low (split_none 0 (omega arith)) in
+      let zeroth = first_at (time / s.cycle) 0 0 l.cycle_low (split_none 0 (omega arith)) in
       omega (arith, first_from_low (time / s.cycle * s.cycle + 0) (time / s.cycle * count_of s + 0) zeroth, div-add-mod' time s.cycle)
 
 -- the search through a row's marks has passed those that start in time, and stands at the end or at a later one
@@ -114,7 +114,7 @@ latest_passed r l time passed h early stops (Some a) (some, e) =
           ⊎_elim (λ p. omega arith)
           (λ p.
           let more : passed < r.count = omega arith in
-          omega (arith, stops more, start_is r passed more, marks-rise (stage_of r) l passed b p b-in))
+          omega (arith, stops more, start_is r passed more, marks_rise (stage_of r) l passed b p b-in))
           (cases_lt b passed);
     }
 

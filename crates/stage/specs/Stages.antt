@@ -37,4 +37,4 @@ pub record Lawful (s : Stage) : Type 0 where
   pub start_after_stop : (a : ℕ) → a + 1 < count_of s → (mark_of s a).1 ≤ (mark_of s (a + 1)).0
   -- the last stop is not above the cycle plus the first start
   pub last_stop_in_time : (mark_of s (count_of s - 1)).1 ≤ s.cycle + (mark_of s 0).0
-  deriving IsProp as lawful-prop
+  deriving IsProp as lawful_prop

@@ -4,7 +4,7 @@ use Rattle.path.specs.Given.{stages_of}
 use Rattle.path.specs.Timed.{first_stage}
 use Rattle.path.specs.Periods.{instances_in}
 use Rattle.path.specs.Steps.{Counting, route_of, first_block}
-use Rattle.path.proofs.Searching.{Reached, last_block, zero_early, back_some, first_is, next_rises, first_early, last_block_small, after_early, far_early, reached-start, opens, end-early, takes, reached-more, reached-same, reached-skip, reached-figure, reached-there, reached-early}
+use Rattle.path.proofs.Searching.{Reached, last_block, zero_early, back_some, first_is, next_rises, first_early, last_block_small, after_early, far_early, reached_start, opens, end_early, takes, reached_more, reached_same, reached_skip, reached_figure, reached_there, reached_early}
 use Rattle.path.proofs.largest.longest_path.Goals as goal
 use Rattle.path.proofs.largest.longest_path.Goals.{then-counts+then-found-best, then-counts+else-found-best, else-counts}
 
@@ -35,7 +35,7 @@ pub loop-block-init : goal.loop-block-init
 loop-block-init c =
     let begin =
     first_is c.args.rows.now c.requires.some c.ahead-near.result c.back-first.result c.ahead-near.ensures c.back-first.ensures in (
-      reached-start c.args.rows.now c.requires.some c.requires.few c.args.span c.requires.common c.requires.short c.args.semantics
+      reached_start c.args.rows.now c.requires.some c.requires.few c.args.span c.requires.common c.requires.short c.args.semantics
           c.ahead-near.result c.back-first.result c.ahead-near.ensures c.back-first.ensures,
       begin,
       c.last_block-end.ensures ∙ ap (λ x. x + instances_in c.args.span (first_stage (stages_of c.args.rows.now))) begin,
@@ -68,7 +68,7 @@ longest_in-found-requires c =
           c.loop-block.best.last c.ahead-far.result (0) c.loop-block.invariant.0 (omega (arith, c.loop-block.invariant.2))
           c.ahead-far.ensures
           (subst (λ x. Counting c.args.semantics x c.loop-block.block) c.loop-block.invariant.1 (c.if-counts.ensures.sound tt));
-      early = end-early c.args.rows.now c.requires.some c.requires.few c.args.span c.requires.common c.requires.short c.args.semantics
+      early = end_early c.args.rows.now c.requires.some c.requires.few c.args.span c.requires.common c.requires.short c.args.semantics
           c.loop-block.block c.loop-block.before c.loop-block.near c.loop-block.best.delay c.loop-block.best.origin
           c.loop-block.best.last c.ahead-far.result (0) c.loop-block.invariant.0 (omega (arith, c.loop-block.invariant.2))
           c.ahead-far.ensures;
@@ -101,7 +101,7 @@ loop-block-preserved c = (
   elim c.if-counts.branch [
     | then-counts+then-found-best w ↦
         subst (Next-with c) (sym w.best-is)
-        (reached-more c.args.rows.now c.requires.some c.requires.few c.args.span c.requires.common c.requires.short c.args.semantics
+        (reached_more c.args.rows.now c.requires.some c.requires.few c.args.span c.requires.common c.requires.short c.args.semantics
         c.loop-block.block c.loop-block.before c.loop-block.near c.loop-block.best.delay c.loop-block.best.origin
         c.loop-block.best.last c.ahead-far.result c.back-block.result c.loop-block.invariant.0 (omega (arith, c.loop-block.invariant.2))
         c.ahead-far.ensures c.back-block.ensures
@@ -110,7 +110,7 @@ loop-block-preserved c = (
         w.longest_in-found.ensures.delay w.longest_in-found.ensures.origin w.longest_in-found.ensures.last w.if-found-best.true)
     | then-counts+else-found-best w ↦
         subst (Next-with c) (sym w.best-is)
-        (reached-same c.args.rows.now c.requires.some c.requires.few c.args.span c.requires.common c.requires.short c.args.semantics
+        (reached_same c.args.rows.now c.requires.some c.requires.few c.args.span c.requires.common c.requires.short c.args.semantics
         c.loop-block.block c.loop-block.before c.loop-block.near c.loop-block.best.delay c.loop-block.best.origin
         c.loop-block.best.last c.ahead-far.result c.back-block.result c.loop-block.invariant.0 (omega (arith, c.loop-block.invariant.2))
         c.ahead-far.ensures c.back-block.ensures
@@ -119,7 +119,7 @@ loop-block-preserved c = (
         w.longest_in-found.ensures.delay w.if-found-best.false)
     | else-counts w ↦
         subst (Next-with c) (sym w.best-is)
-        (reached-skip c.args.rows.now c.requires.some c.requires.few c.args.span c.requires.common c.requires.short c.args.semantics
+        (reached_skip c.args.rows.now c.requires.some c.requires.few c.args.span c.requires.common c.requires.short c.args.semantics
         c.loop-block.block c.loop-block.before c.loop-block.near c.loop-block.best.delay c.loop-block.best.origin
         c.loop-block.best.last c.ahead-far.result c.back-block.result c.loop-block.invariant.0 (omega (arith, c.loop-block.invariant.2))
         c.ahead-far.ensures c.back-block.ensures
@@ -134,13 +134,13 @@ pub returns : goal.returns
 returns c =
     let past : last_block c.args.rows.now c.args.span < c.loop-block.block = omega (arith, c.loop-block.invariant.2) in
     record {
-      figure = reached-figure c.args.rows.now c.requires.some c.requires.few c.args.span c.requires.common c.requires.short c.args.semantics
+      figure = reached_figure c.args.rows.now c.requires.some c.requires.few c.args.span c.requires.common c.requires.short c.args.semantics
           c.loop-block.block c.loop-block.before c.loop-block.near c.loop-block.best.delay c.loop-block.best.origin
           c.loop-block.best.last c.loop-block.invariant.0 past;
-      there = reached-there c.args.rows.now c.requires.some c.requires.few c.args.span c.requires.common c.requires.short c.args.semantics
+      there = reached_there c.args.rows.now c.requires.some c.requires.few c.args.span c.requires.common c.requires.short c.args.semantics
           c.loop-block.block c.loop-block.before c.loop-block.near c.loop-block.best.delay c.loop-block.best.origin
           c.loop-block.best.last c.loop-block.invariant.0 past;
-      early = reached-early c.args.rows.now c.requires.some c.requires.few c.args.span c.requires.common c.requires.short c.args.semantics
+      early = reached_early c.args.rows.now c.requires.some c.requires.few c.args.span c.requires.common c.requires.short c.args.semantics
           c.loop-block.block c.loop-block.before c.loop-block.near c.loop-block.best.delay c.loop-block.best.origin
           c.loop-block.best.last c.loop-block.invariant.0 past;
     }

@@ -1,6 +1,6 @@
 use Rattle.std.proofs.Common.{◌≡◌, ◌+◌, ◌-◌, ◌<◌, length, get_or, refl, ◌∙◌, arith}
 use Rattle.std.proofs.lemmas.List.{drop-set-lt, length-set}
-use Rattle.path.proofs.Walking.{traced_early, traced-some, traced-hop, written_last, written_more, written_all}
+use Rattle.path.proofs.Walking.{traced_early, traced_some, traced_hop, written_last, written_more, written_all}
 use Rattle.path.proofs.route.write_path.Goals as goal
 
 pub loop-k-init : goal.loop-k-init
@@ -17,7 +17,7 @@ back-requires c =
           inside c.index-rows-k.is c.index-rows-k-in-loop-k.is c.args.j
           (get_or c.loop-k.path (c.loop-k.k - 1 + 1) 0) t;
       there =
-          traced-some c.args.rows.now (c.loop-k.k - 1) c.index-rows-k.result c.index-rows-k-in-loop-k.result
+          traced_some c.args.rows.now (c.loop-k.k - 1) c.index-rows-k.result c.index-rows-k-in-loop-k.result
           inside c.index-rows-k.is c.index-rows-k-in-loop-k.is c.args.j c.requires.there
           (get_or c.loop-k.path (c.loop-k.k - 1 + 1) 0) t;
     }
@@ -27,7 +27,7 @@ loop-k-preserved c =
     let inside : c.loop-k.k - 1 + 1 < length c.args.rows.now = omega arith in
     let t = c.loop-k.invariant.0 (c.loop-k.k - 1 + 1) (omega arith) inside in
     let new =
-    traced-hop c.args.rows.now (c.loop-k.k - 1) c.index-rows-k.result c.index-rows-k-in-loop-k.result
+    traced_hop c.args.rows.now (c.loop-k.k - 1) c.index-rows-k.result c.index-rows-k-in-loop-k.result
     inside c.index-rows-k.is c.index-rows-k-in-loop-k.is c.args.j c.requires.there
     (get_or c.loop-k.path (c.loop-k.k - 1 + 1) 0) t c.back.result c.back.ensures in
     let long : length c.loop-k.path ≡ length c.args.path.now =

@@ -5,7 +5,7 @@ use Rattle.path.specs.Figures.{Figure}
 use Rattle.path.specs.Refusals.{Accepted, Refused}
 use Rattle.book.specs.Keeping.{stands}
 use Rattle.book.specs.Ledgers.{stages_along}
-use Rattle.book.proofs.Queries.{none_absent, above_three, along_long, number_low, refused_10, refused-search, accepted-search}
+use Rattle.book.proofs.Queries.{none_absent, above_three, along_long, number_low, refused_10, refused_search, accepted_search}
 use Rattle.book.proofs.book.Book.query.Goals as goal
 
 pub returns-in_default : goal.returns-in_default
@@ -39,7 +39,7 @@ returns-in_err-found g c =
     let same = c.in_err-found.ensures.figure in
     rw (p.1, p.2)
     (record {
-      refused = refused-search meaning ledger c.args.semantics (length c.args.buffer.now)
+      refused = refused_search meaning ledger c.args.semantics (length c.args.buffer.now)
           (none_absent _ c.in_ok-check_route.ensures) low few long there.routed c.in_err-found.field-0.0 refused;
       answered = same;
       rest = ap (drop (length ledger.route)) same;
@@ -65,7 +65,7 @@ returns g c =
     (λ ss. Figure c.in-Some.kind ss found.delay found.predecessor (take c.route_len-length.result c.search.new.buffer))
     along c.in_ok-found.ensures.figure in
     record {
-      refused = accepted-search meaning ledger c.args.semantics (length c.args.buffer.now)
+      refused = accepted_search meaning ledger c.args.semantics (length c.args.buffer.now)
           (none_absent _ c.in_ok-check_route.ensures) low few long there.routed
           (subst (λ ss. Accepted ss (length c.args.buffer.now)) along c.in_ok-found.ensures.refusal);
       answered = record {

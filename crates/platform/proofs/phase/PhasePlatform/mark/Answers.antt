@@ -1,6 +1,6 @@
 use Rattle.std.proofs.Common.{◌%◌, mod-lt, arith}
 use Rattle.platform.proofs.Told.{shaped}
-use Rattle.platform.proofs.Phasing.{Placed, phase_past, first-soon, placed, phase-marked}
+use Rattle.platform.proofs.Phasing.{Placed, phase_past, first_soon, placed, phase_marked}
 use Rattle.platform.proofs.phase.PhasePlatform.mark.Given as given
 use Rattle.platform.proofs.phase.PhasePlatform.mark.Goals as goal
 
@@ -20,7 +20,7 @@ pub instance-requires : goal.instance-requires
 instance-requires g c =
     let self = c.args.self.now in
     let p = shaped _ c.args.number _ _ _ (g.P.Platform.sound self.below c.args.number) c.in-Some.ensures in
-    record { shape = p; soon = first-soon self.shift _ _ _ p c.args.a _ c.staying-first.ensures c.if-a-count.false }
+    record { shape = p; soon = first_soon self.shift _ _ _ p c.args.a _ c.staying-first.ensures c.if-a-count.false }
 
 place : (g : given.Over) (c : goal.In-Some-instance g)
     → Placed c.in-Some.cycle (c.args.self.now.shift % c.in-Some.cycle) c.in-Some-instance.start c.in-Some-instance.stop
@@ -45,4 +45,4 @@ pub returns : goal.returns
 returns g c =
     let self = c.args.self.now in
     let p = shaped _ c.args.number _ _ _ (g.P.Platform.sound self.below c.args.number) c.in-Some.ensures in
-    phase-marked self.shift _ _ _ p c.args.a _ c.staying-first.ensures _ _ c.if-a-count.false c.in-Some-instance.ensures
+    phase_marked self.shift _ _ _ p c.args.a _ c.staying-first.ensures _ _ c.if-a-count.false c.in-Some-instance.ensures

@@ -1,5 +1,5 @@
 use Rattle.std.proofs.Common.{◌≡◌, sym, ap, ◌∙◌, subst, arith, le→leb, leb→le, rules}
-use Rattle.stage.proofs.Marks.{Kept, floor-at, count_is, to_lawful, from_lawful, last_in_time}
+use Rattle.stage.proofs.Marks.{Kept, floor_at, count_is, to_lawful, from_lawful, last_in_time}
 use Rattle.stage.proofs.row.Row.is_lawful.Goals as goal
 
 pub returns-then-count-lt1 : goal.returns-then-count-lt1
@@ -19,8 +19,8 @@ returns-then-not-is_lawful_mark c =
 pub returns : goal.returns
 returns c =
     let all : c.loop-a.a ≡ c.args.self.now.count = omega arith in
-    let floor : c.loop-a.floor ≡ floor-at c.args.self.now c.args.self.now.count =
-    c.loop-a.invariant.1 ∙ ap (floor-at c.args.self.now) all in
+    let floor : c.loop-a.floor ≡ floor_at c.args.self.now c.args.self.now.count =
+    c.loop-a.invariant.1 ∙ ap (floor_at c.args.self.now) all in
     record {
       sound = λ t.
           to_lawful c.args.self.now (omega arith) (omega arith) (omega arith) (omega arith) (search rules)
