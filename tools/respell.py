@@ -19,7 +19,8 @@ DECLARED = re.compile(
 DERIVED = re.compile(rf"^ *deriving {NAME} as ({NAME})")
 # what a `let` or a `λ` binds: known in its file alone, as a helper in a `where` is
 BOUND = re.compile(rf"\blet ({NAME})(?= [:=])|λ \(?({NAME})(?= :|\. )|[({{]({NAME})(?= : )")
-ALIAS = re.compile(rf"^use .*$", re.M)
+ALIAS = re.compile(r"^use .*$", re.M)
+GHOST = re.compile(r"^ *ghost use .*$", re.M)
 AS = re.compile(rf" as ({NAME})(?=[,}}])")
 RULES = re.compile(rf"^(?:pub )?ruleset ({NAME})")
 # what antt makes of a variable at a join, as w.next-is, keeps its dash in a function's own proof
@@ -116,7 +117,6 @@ def main():
             print("together:", new, old)
     for path in files(root, ".antt", ".rt"):
         text = open(path, encoding="utf-8").read()
-        crate = os.path.relpath(path, os.path.join(root, "crates")).split(os.sep)[0]
         words = set(WORD.findall(text))
         for name, new in table.items():
             if name in words and new in words:
@@ -127,7 +127,8 @@ def main():
         if path.endswith(".antt"):
             new = turned(text, {**local(text, table, not own), **table}, not own)
         else:
-            new = turned_code(text, table)
+            given = {n: respelled(n) for line in GHOST.findall(text) for n in AS.findall(line) if "-" in n}
+            new = turned_code(text, {**given, **table})
         if new != text:
             open(path, "w", encoding="utf-8").write(new)
 

@@ -1,7 +1,7 @@
 // What a call is refused by. Each layer has an enum of its own, and an upper layer's holds the lower one's whole.
 ghost use Rattle.std.specs.Prelude.{◌≡◌};
-ghost use Rattle.book.specs.declared.fault.RouteFault.TheVariants.{Task as task-case};
-ghost use Rattle.book.specs.declared.fault.AnalysisFault.TheVariants.{Route as route-case};
+ghost use Rattle.book.specs.declared.fault.RouteFault.TheVariants.{Task as task_case};
+ghost use Rattle.book.specs.declared.fault.AnalysisFault.TheVariants.{Route as route_case};
 ghost use Rattle.book.specs.Faults.{analysis_fault, route_fault, search_fault, task_fault};
 
 use path::SearchFault;
@@ -77,7 +77,7 @@ impl RouteFault {
 }
 
 impl From<TaskFault> for RouteFault {
-    ghost from_gives = { λ x y. y ≡ task-case x };
+    ghost from_gives = { λ x y. y ≡ task_case x };
 
     fn from(task: TaskFault) -> RouteFault {
         RouteFault::Task(task)
@@ -128,7 +128,7 @@ impl AnalysisFault {
 }
 
 impl From<RouteFault> for AnalysisFault {
-    ghost from_gives = { λ x y. y ≡ route-case x };
+    ghost from_gives = { λ x y. y ≡ route_case x };
 
     fn from(fault: RouteFault) -> AnalysisFault {
         AnalysisFault::Route(fault)

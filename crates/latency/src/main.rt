@@ -1,4 +1,5 @@
 // Plays a script of calls on a latency book and prints what each call did.
+#![tactic(auto)]
 
 mod play;
 mod script;

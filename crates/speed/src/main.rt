@@ -1,5 +1,7 @@
 // How long the search for the largest delay takes, beside a plain walk over the last stage's instances.
 // With no argument it only says what the search answers.
+#![tactic(auto)]
+
 mod walk;
 
 use path::{Delay, Semantics, largest_delay};

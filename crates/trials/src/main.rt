@@ -1,4 +1,6 @@
 // Compares the search for the largest delay with figures straight from the definition, on routes made at random.
+#![tactic(auto)]
+
 mod brute;
 mod random;
 
