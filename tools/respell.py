@@ -4,8 +4,10 @@
 usage: python3 tools/respell.py [--list] [FOLDER]      (FOLDER: a checkout, by default this one)
 
 Runs once, after port.py. A word (a value, a lemma, a field) goes to snake case, a fact or a type to upper camel case:
-stage-of to stage_of, In-order to InOrder. Names of src/, goals' names and what stands in strings and in comments stay.
-A name whose new form stands already in the same crate is reported on a line 'together:'. --list only prints the table.
+stage-of to stage_of, In-order to InOrder; three names of SPECIAL get another form. What a `where`, a `let` or a `λ` binds,
+and what an import is called (`as`, in src/ too), turns in its file alone. Names of src/, goals' names, what stands in
+strings and in comments, and must-fail edits stay. Two names that would become one, and a new form that stands already in
+a file with the old one, are reported on lines 'together:'. --list prints the table and those lines, and changes nothing.
 """
 import os
 import re
@@ -18,7 +20,7 @@ DECLARED = re.compile(
 )
 DERIVED = re.compile(rf"^ *deriving {NAME} as ({NAME})")
 # what a `let` or a `λ` binds: known in its file alone, as a helper in a `where` is
-BOUND = re.compile(rf"\blet ({NAME})(?= [:=])|λ \(?({NAME})(?= :|\. )|[({{]({NAME})(?= : )")
+BOUND = re.compile(rf"\blet ({NAME})(?= [:=])|[({{]({NAME})(?= : )|λ ((?:{NAME} ?)+)(?=\.(?: |$))", re.M)
 ALIAS = re.compile(r"^use .*$", re.M)
 GHOST = re.compile(r"^ *ghost use .*$", re.M)
 AS = re.compile(rf" as ({NAME})(?=[,}}])")
@@ -55,9 +57,9 @@ def names_of(text):
         rules, derived = RULES.match(line), DERIVED.match(line)
         if rules or derived:
             shared.add((rules or derived)[1])
-        elif m and not (m[5] or "").startswith("goal."):
+        elif m and (m[5] or "") != f"goal.{m[3]}":
             (shared if not m[1] or "pub " in line.split(":")[0] else own).add(m[3])
-        own.update(n for b in BOUND.finditer(line) for n in b.groups() if n)
+        own.update(n for b in BOUND.finditer(line) for names in b.groups() if names for n in names.split())
     good = lambda n: "-" in n and re.match("[A-Za-z]", n)
     return set(filter(good, shared)), set(filter(good, own))
 

@@ -110,11 +110,11 @@ latest_passed r l time passed h early stops (Some a) (some, e) =
     record {
       present = omega arith;
       started = omega (arith, start_is r a at, early a (omega arith));
-      last = λ b b-in b-started.
+      last = λ b b_in b_started.
           ⊎_elim (λ p. omega arith)
           (λ p.
           let more : passed < r.count = omega arith in
-          omega (arith, stops more, start_is r passed more, marks_rise (stage_of r) l passed b p b-in))
+          omega (arith, stops more, start_is r passed more, marks_rise (stage_of r) l passed b p b_in))
           (cases_lt b passed);
     }
 

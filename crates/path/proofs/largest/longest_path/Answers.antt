@@ -91,8 +91,8 @@ loop-block-smaller c =
     omega arith
 
 -- the next block is reached with b as the best
-abbrev Next-with : goal.After-back-block → Longest → Type 0
-Next-with c b =
+abbrev NextWith : goal.After-back-block → Longest → Type 0
+NextWith c b =
     Reached c.args.semantics c.args.rows.now c.back-block.result c.loop-block.block c.ahead-far.result
     b.delay b.origin b.last
 
@@ -100,7 +100,7 @@ pub loop-block-preserved : goal.loop-block-preserved
 loop-block-preserved c = (
   elim c.if-counts.branch [
     | then-counts+then-found-best w ↦
-        subst (Next-with c) (sym w.best-is)
+        subst (NextWith c) (sym w.best-is)
         (reached_more c.args.rows.now c.requires.some c.requires.few c.args.span c.requires.common c.requires.short c.args.semantics
         c.loop-block.block c.loop-block.before c.loop-block.near c.loop-block.best.delay c.loop-block.best.origin
         c.loop-block.best.last c.ahead-far.result c.back-block.result c.loop-block.invariant.0 (omega (arith, c.loop-block.invariant.2))
@@ -109,7 +109,7 @@ loop-block-preserved c = (
         (subst (λ x. Counting c.args.semantics x c.loop-block.block) c.loop-block.invariant.1 (w.if-counts.ensures.sound tt))
         w.longest_in-found.ensures.delay w.longest_in-found.ensures.origin w.longest_in-found.ensures.last w.if-found-best.true)
     | then-counts+else-found-best w ↦
-        subst (Next-with c) (sym w.best-is)
+        subst (NextWith c) (sym w.best-is)
         (reached_same c.args.rows.now c.requires.some c.requires.few c.args.span c.requires.common c.requires.short c.args.semantics
         c.loop-block.block c.loop-block.before c.loop-block.near c.loop-block.best.delay c.loop-block.best.origin
         c.loop-block.best.last c.ahead-far.result c.back-block.result c.loop-block.invariant.0 (omega (arith, c.loop-block.invariant.2))
@@ -118,7 +118,7 @@ loop-block-preserved c = (
         (subst (λ x. Counting c.args.semantics x c.loop-block.block) c.loop-block.invariant.1 (w.if-counts.ensures.sound tt))
         w.longest_in-found.ensures.delay w.if-found-best.false)
     | else-counts w ↦
-        subst (Next-with c) (sym w.best-is)
+        subst (NextWith c) (sym w.best-is)
         (reached_skip c.args.rows.now c.requires.some c.requires.few c.args.span c.requires.common c.requires.short c.args.semantics
         c.loop-block.block c.loop-block.before c.loop-block.near c.loop-block.best.delay c.loop-block.best.origin
         c.loop-block.best.last c.ahead-far.result c.back-block.result c.loop-block.invariant.0 (omega (arith, c.loop-block.invariant.2))
