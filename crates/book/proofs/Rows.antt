@@ -3,7 +3,7 @@
 use Rattle.std.proofs.Common.{◌≡◌, ℕ, suc, ◌+◌, ◌-◌, ◌<◌, ◌≤◌, ltb, ◌≢◌, List, [], ◌∷◌, map, length, get_or, take, set, is_some, IfSome, Some, None, Option, sym, refl, ap, ◌∙◌, subst, ⊎_elim, arith, get_or-set_other, get_or-set_same, below_more, MatchOption}
 use Rattle.std.specs.List.{slice_get, range_with_len}
 use Rattle.std.proofs.lemmas.List.{length-map, take-map, get_or-take, length-take-le, map-set}
-use Rattle.std.proofs.lemmas.Option.{slice_get-get_or, slice_get_past as nth_past}
+use Rattle.std.proofs.lemmas.Option.{slice_get-get_or, slice_get_past}
 use Rattle.path.specs.Given.{stage_in, stages_of}
 use Rattle.path.specs.Timed.{no_stage}
 use Rattle.std.specs.Option.{option_map}
@@ -131,7 +131,7 @@ pub nth_inside : (xs : List ℕ) (k x : ℕ) → Some x ≡ slice_get xs k → (
 nth_inside xs k x e =
     ⊎_elim
     (λ h. (h, some (sym (slice_get-get_or xs k 0 h) ∙ sym e)))
-    (λ h. let none = nth_past xs k h in let z : ◌≡◌ {A = ℕ} 0 1 = cc in absurd (omega arith))
+    (λ h. let none = slice_get_past xs k h in let z : ◌≡◌ {A = ℕ} 0 1 = cc in absurd (omega arith))
     (cases_lt k (length xs))
   where
     some : {a b : ℕ} → Some a ≡ Some b → a ≡ b

@@ -3,7 +3,7 @@ ghost use Rattle.platform.specs.Singles.{single, single_sound};
 
 use crate::{Number, Phase, Platform, Thin};
 use stage::{LawfulRow, MAX_MARKS, Row};
-use std::process::Abort;
+use std::fmt::Debug;
 use std::test::Fail;
 
 // One row under every number.
@@ -64,21 +64,29 @@ fn row_of(cycle: u32, marks: &[(u32, u32)]) -> Result<Single, Fail> {
     }
 }
 
+// A failure that shows both, where they differ.
+fn check_eq<T: PartialEq + Debug + Drop>(found: T, expected: T) -> Result<(), Fail> {
+    if found == expected {
+        return Ok(());
+    }
+    Err(Fail::new(format_args!("{found:?}, and not {expected:?}")))
+}
+
 // Stage 3 has this cycle and just these marks.
-fn expect<P: Platform>(rt: &impl Abort, platform: &P, cycle: u32, marks: &[(u32, u32)]) {
+fn expect<P: Platform>(platform: &P, cycle: u32, marks: &[(u32, u32)]) -> Result<(), Fail> {
     let mut count = 0u8;
     for mark in marks {
-        assert_eq!(rt; platform.mark(3, count), Some(*mark));
+        check_eq(platform.mark(3, count), Some(*mark))?;
         count = count.saturating_add(1);
     }
-    assert_eq!(rt; platform.mark(3, count), None);
-    assert_eq!(rt; platform.describe(3), Some((cycle, count, 7)));
+    check_eq(platform.mark(3, count), None)?;
+    check_eq(platform.describe(3), Some((cycle, count, 7)))
 }
 
 // There is no stage 3.
-fn expect_absent<P: Platform>(rt: &impl Abort, platform: &P) {
-    assert_eq!(rt; platform.describe(3), None);
-    assert_eq!(rt; platform.mark(3, 0), None);
+fn expect_absent<P: Platform>(platform: &P) -> Result<(), Fail> {
+    check_eq(platform.describe(3), None)?;
+    check_eq(platform.mark(3, 0), None)
 }
 
 // The row of most tests.
@@ -87,57 +95,49 @@ fn two_marks() -> Result<Single, Fail> {
 }
 
 #[test]
-fn a_mark_wraps_and_every_second_stays(rt: HostRuntime) -> Result<(), Fail> {
+fn a_mark_wraps_and_every_second_stays() -> Result<(), Fail> {
     let below = two_marks()?;
     expect(
-        &rt,
         &Phase::new(below, 5_000),
         10_000,
         &[(1_000, 4_000), (6_000, 7_000)],
-    );
+    )?;
     expect(
-        &rt,
         &Thin::new(below, 2, 1),
         20_000,
         &[(6_000, 9_000), (16_000, 19_000)],
-    );
-    Ok(())
+    )
 }
 
 #[test]
 fn phases_of_nothing_and_of_much(rt: HostRuntime) -> Result<(), Fail> {
     let below = two_marks()?;
     expect(
-        &rt,
         &Phase::new(below, 0),
         10_000,
         &[(1_000, 2_000), (6_000, 9_000)],
-    );
+    )?;
     expect(
-        &rt,
         &Phase::new(below, 10_000),
         10_000,
         &[(1_000, 2_000), (6_000, 9_000)],
-    );
+    )?;
     expect(
-        &rt,
         &Phase::new(below, u32::MAX),
         10_000,
         &[(3_295, 6_295), (8_295, 9_295)],
-    );
+    )?;
     assert_eq!(rt; Phase::new(below, 5_000).describe(128), None);
     Ok(())
 }
 
 #[test]
-fn every_mark_wraps(rt: HostRuntime) -> Result<(), Fail> {
+fn every_mark_wraps() -> Result<(), Fail> {
     expect(
-        &rt,
         &Phase::new(two_marks()?, 9_500),
         10_000,
         &[(500, 1_500), (5_500, 8_500)],
-    );
-    Ok(())
+    )
 }
 
 #[test]
@@ -168,59 +168,51 @@ fn forty_eight_marks(rt: HostRuntime) -> Result<(), Fail> {
 }
 
 #[test]
-fn a_mark_ends_past_the_cycle(rt: HostRuntime) -> Result<(), Fail> {
+fn a_mark_ends_past_the_cycle() -> Result<(), Fail> {
     let below = row_of(10_000, &[(500, 3_000), (8_000, 10_400)])?;
     expect(
-        &rt,
         &Phase::new(below, 1_000),
         10_000,
         &[(1_500, 4_000), (9_000, 11_400)],
-    );
+    )?;
     expect(
-        &rt,
         &Phase::new(below, 2_500),
         10_000,
         &[(500, 2_900), (3_000, 5_500)],
-    );
+    )?;
     expect(
-        &rt,
         &Thin::new(below, 2, 1),
         20_000,
         &[(8_000, 10_400), (18_000, 20_400)],
-    );
-    Ok(())
+    )
 }
 
 #[test]
-fn thins_within_the_limits_only(rt: HostRuntime) -> Result<(), Fail> {
+fn thins_within_the_limits_only() -> Result<(), Fail> {
     let below = two_marks()?;
     expect(
-        &rt,
         &Thin::new(below, 1, 0),
         10_000,
         &[(1_000, 2_000), (6_000, 9_000)],
-    );
+    )?;
     expect(
-        &rt,
         &Thin::new(below, 16, 15),
         160_000,
         &[(76_000, 79_000), (156_000, 159_000)],
-    );
-    expect_absent(&rt, &Thin::new(below, 0, 0));
-    expect_absent(&rt, &Thin::new(below, 17, 0));
-    expect_absent(&rt, &Thin::new(below, 3, 3));
+    )?;
+    expect_absent(&Thin::new(below, 0, 0))?;
+    expect_absent(&Thin::new(below, 17, 0))?;
+    expect_absent(&Thin::new(below, 3, 3))?;
     let long = row_of(10_000_000, &[(0, 1)])?;
-    expect(&rt, &Thin::new(long, 10, 0), 100_000_000, &[(0, 1)]);
-    expect_absent(&rt, &Thin::new(long, 11, 0));
-    Ok(())
+    expect(&Thin::new(long, 10, 0), 100_000_000, &[(0, 1)])?;
+    expect_absent(&Thin::new(long, 11, 0))
 }
 
 #[test]
-fn layers_on_layers(rt: HostRuntime) -> Result<(), Fail> {
+fn layers_on_layers() -> Result<(), Fail> {
     let below = two_marks()?;
     let phase = Phase::new(Thin::new(Phase::new(below, 5_000), 2, 1), 5_000);
-    expect(&rt, &phase, 20_000, &[(1_000, 2_000), (11_000, 12_000)]);
+    expect(&phase, 20_000, &[(1_000, 2_000), (11_000, 12_000)])?;
     let thin = Thin::new(Phase::new(Thin::new(below, 2, 1), 5_000), 2, 0);
-    expect(&rt, &thin, 40_000, &[(1_000, 4_000), (21_000, 24_000)]);
-    Ok(())
+    expect(&thin, 40_000, &[(1_000, 4_000), (21_000, 24_000)])
 }
