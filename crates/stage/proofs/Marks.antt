@@ -1,13 +1,18 @@
 -- What the test of a row against the laws has seen, mark by mark.
 -- Assumes nothing.
-use Rattle.std.proofs.Common.{◌≡◌, ℕ, zero, suc, ◌+◌, ◌-◌, ◌%◌, ◌<◌, ◌≤◌, get_or, sym, refl, ap, subst, mod-lt, add-one, arith}
+use Rattle.std.proofs.Common.{◌≡◌, ℕ, zero, suc, ◌+◌, ◌-◌, ◌%◌, ◌<◌, ◌≤◌, List, length, take, get_or, sym, refl, ◌∙◌, ap, subst, mod-lt, add-one, below_more, arith}
 use mathlib.Core.Logic.{∥∥₁_elim}
 use mathlib.Core.HLevel.{Π_prop}
 use native.Mathlib.Bridge.{le_prop}
+use Rattle.std.proofs.lemmas.List.{get_or-take, length-take}
 use Rattle.std.proofs.lemmas.List.FromFn.{length-map-range_with_len, get_or-map-range_with_len}
-use Rattle.stage.specs.Stages.{Stage, Lawful, lawful_prop, count_of, mark_of, start_of, stop_of}
-use Rattle.stage.specs.Rows.{stage_of, time_of, LawfulMark}
+use Rattle.stage.specs.Stages.{Stage, Lawful, LawfulMark, lawful_prop, count_of, mark_of, start_of, stop_of}
+use Rattle.stage.specs.Rows.{stage_of, time_of}
 use Rattle.stage.specs.declared.row.Row.{Row}
+
+-- what holds below n and at n holds below n + 1
+below_suc : (P : ℕ → Type 0) (n : ℕ) → ((a : ℕ) → a < n → P a) → P n → (a : ℕ) → a < suc n → P a
+below_suc P n below here a h = below_more P n below here a (omega arith)
 
 module _ (r : Row) where
   pub count_is : count_of (stage_of r) ≡ r.count
@@ -30,6 +35,19 @@ module _ (r : Row) where
   -- each of the first n marks keeps the laws within the cycle
   abbrev pub Kept : ℕ → Type 0
   Kept n = (a : ℕ) → a < n → LawfulMark r.cycle (floor_at a) (get_or r.starts a 0) (get_or r.stops a 0)
+
+  -- where the starts and the stops of the first marks are read one after the other
+  pub mark_read : (times : List ℕ) (n time : ℕ) → n < length (take r.count times)
+      → ((d : ℕ) → time ≡ get_or (take r.count times) n d) → (n < r.count) × (time ≡ get_or times n 0)
+  mark_read times n time h e =
+      let k = length-take r.count times in
+      let inside : n < r.count = omega arith in
+      (inside, e 0 ∙ get_or-take r.count times n 0 inside)
+
+  pub kept_more : (n start stop : ℕ) → Kept n → LawfulMark r.cycle (floor_at n) start stop
+      → start ≡ get_or r.starts n 0 → stop ≡ get_or r.stops n 0 → Kept (suc n) × (stop ≡ floor_at (suc n))
+  kept_more n start stop kept mark e f =
+      (below_suc (λ a. LawfulMark r.cycle (floor_at a) (get_or r.starts a 0) (get_or r.stops a 0)) n kept (rw (← e, ← f) mark), f)
 
   pub to_lawful : 0 < r.cycle → r.cycle ≤ 100_000_000 → 0 < r.count → r.count ≤ 48 → r.rank ≤ 255
       → Kept r.count → floor_at r.count ≤ r.cycle + get_or r.starts 0 0 → Lawful (stage_of r)

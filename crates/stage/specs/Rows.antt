@@ -14,17 +14,17 @@ stage_of r =
       marks = map (λ (a : ℕ). (slice_index r.starts a, slice_index r.stops a)) (range_with_len 0 r.count);
     }
 
+-- just the first n marks start before a time within the cycle
+pub record StartBefore (s : Stage) (time n : ℕ) : Type 0 where
+  pub within : n ≤ count_of s
+  pub early : (a : ℕ) → a < n → (mark_of s a).0 < time
+  pub late : (a : ℕ) → n ≤ a → a < count_of s → time ≤ (mark_of s a).0
+
 -- a is the last mark that starts at or before a time within the cycle
 pub record Latest (s : Stage) (time a : ℕ) : Type 0 where
   pub present : a < count_of s
   pub started : (mark_of s a).0 ≤ time
   pub last : (b : ℕ) → b < count_of s → (mark_of s b).0 ≤ time → b ≤ a
-
--- a mark keeps the laws within its cycle, where the mark before it stops at `floor`
-pub record LawfulMark (cycle floor start stop : ℕ) : Type 0 where
-  pub after_floor : floor ≤ start
-  pub in_cycle : start < cycle
-  pub stops_later : start < stop
 
 -- when a row's instance i comes to what the list `times` has for its mark
 abbrev pub time_of : Row → List ℕ → ℕ → ℕ

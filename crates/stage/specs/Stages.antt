@@ -38,3 +38,9 @@ pub record Lawful (s : Stage) : Type 0 where
   -- the last stop is not above the cycle plus the first start
   pub last_stop_in_time : (mark_of s (count_of s - 1)).1 ≤ s.cycle + (mark_of s 0).0
   deriving IsProp as lawful_prop
+
+-- a mark keeps the laws within its cycle, where the mark before it stops at `floor`
+pub record LawfulMark (cycle floor start stop : ℕ) : Type 0 where
+  pub after_floor : floor ≤ start
+  pub in_cycle : start < cycle
+  pub stops_later : start < stop

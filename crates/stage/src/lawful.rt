@@ -1,8 +1,11 @@
-// Rows that keep the laws.
-ghost use Rattle.stage.specs.Stages.{Lawful};
-ghost use Rattle.stage.specs.Rows.{stage_of};
+// Rows that keep the laws, and when their instances start and stop.
+ghost use Rattle.std.specs.Prelude.{◌≡◌, ℕ, ◌^◌, ◌<◌, IfSome, MatchOption};
+ghost use Rattle.std.specs.Option.{SomeIff};
+ghost use Rattle.stage.specs.Stages.{Lawful, mark_of, start_of, stop_of};
+ghost use Rattle.stage.specs.Instances.{FirstFrom, InOrder};
+ghost use Rattle.stage.specs.Rows.{Latest, StartBefore, stage_of, time_of};
 
-use crate::row::Row;
+use crate::row::{MAX_MARKS, Row};
 
 // A row whose stage keeps the ranges and the four laws.
 #[derive(Clone, Copy)]
@@ -11,5 +14,71 @@ pub struct LawfulRow {
     ghost lawful: { ∥ Lawful (stage_of row) ∥₁ },
 }
 
-mod check;
-mod instances;
+impl LawfulRow {
+    // The row, where it keeps the laws; its instances then come one after the other for ever.
+    pub fn new(row: Row) -> Option<LawfulRow>
+        ensures refused { MatchOption result (Lawful (stage_of row) → ⊥) (λ l. l.row ≡ row) }
+        ensures ordered { IfSome result (λ l. InOrder (stage_of l.row)) }
+    {
+        if row.is_lawful() {
+            Some(LawfulRow { row })
+        } else {
+            None
+        }
+    }
+
+    pub fn row(&self) -> &Row
+        ensures value { result.now ≡ self.now.row }
+        ensures lawful { Lawful (stage_of result.now) }
+    {
+        &self.row
+    }
+
+    // How many of its marks start before `time` within the cycle: the first ones, since starts rise.
+    fn starts_before(&self, time: u64) -> usize
+        ensures { StartBefore (stage_of self.now.row) time result }
+    {
+        let starts = &self.row.starts[..self.row.count as usize];
+        starts.partition_point(|start| (*start as u64) < time)
+    }
+
+    // The time at which `marks`, the row's starts or its stops, has instance `i`; nothing where that passes 64 bits.
+    fn time_of(&self, marks: &[u32; MAX_MARKS], i: u64) -> Option<u64>
+        ensures { SomeIff result (time_of self.now.row marks.now i < 2 ^ 64) (time_of self.now.row marks.now i) }
+    {
+        let count = self.row.count as u64;
+        let mark = marks[(i % count) as usize] as u64;
+        (i / count)
+            .checked_mul(self.row.cycle as u64)?
+            .checked_add(mark)
+    }
+
+    // When instance `i` starts, or nothing where that passes 64 bits.
+    pub fn start(&self, i: u64) -> Option<u64>
+        ensures { SomeIff result (start_of (stage_of self.now.row) i < 2 ^ 64) (start_of (stage_of self.now.row) i) }
+    {
+        self.time_of(&self.row.starts, i)
+    }
+
+    // When instance `i` stops, or nothing where that passes 64 bits.
+    pub fn stop(&self, i: u64) -> Option<u64>
+        ensures { SomeIff result (stop_of (stage_of self.now.row) i < 2 ^ 64) (stop_of (stage_of self.now.row) i) }
+    {
+        self.time_of(&self.row.stops, i)
+    }
+
+    // The last mark that starts at or before `time`, or nothing where the first starts later.
+    pub fn latest_mark(&self, time: u32) -> Option<usize>
+        ensures { MatchOption result (time < (mark_of (stage_of self.now.row) 0).0) (Latest (stage_of self.now.row) time) }
+    {
+        self.starts_before(time as u64 + 1).checked_sub(1)
+    }
+
+    // The first instance that starts at or after `time`.
+    pub fn next(&self, time: u64) -> u64
+        ensures { FirstFrom (stage_of self.now.row) time result }
+    {
+        let cycle = self.row.cycle as u64;
+        time / cycle * self.row.count as u64 + self.starts_before(time % cycle) as u64
+    }
+}

@@ -1,30 +1,48 @@
-use Rattle.std.proofs.Common.{◌≡◌, sym, ap, ◌∙◌, subst, arith, le→leb, leb→le, rules}
-use Rattle.stage.proofs.Marks.{Kept, floor_at, count_is, to_lawful, from_lawful, last_in_time}
+use Rattle.std.proofs.Common.{◌≡◌, ◌<◌, ◌≤◌, suc, length, take, get_or, List, [], ◌∷◌, ◌++◌, sym, refl, ap, ◌∙◌, subst, leb-true, le-leb, length-append, length-take, arith, rules}
+use Rattle.std.proofs.lemmas.Slice.Zip.{zip_turn, zip_end}
+use Rattle.stage.proofs.Marks.{Kept, floor_at, mark_read, kept_more, count_is, to_lawful, from_lawful, last_in_time}
 use Rattle.stage.proofs.row.Row.is_lawful.Goals as goal
 
 pub returns-then-count-lt1 : goal.returns-then-count-lt1
-returns-then-count-lt1 c =
-    record { sound = λ t. absurd t; complete = λ l. omega (arith, count_is c.args.self.now, l.count_low, l.count_high) }
+returns-then-count-lt1 c = (
+  λ t. let never = t in cc,
+  λ l. absurd (omega (arith, count_is c.args.self.now, l.count_low, l.count_high)),
+)
+
+pub loop-start-preserved : goal.loop-start-preserved
+loop-start-preserved c =
+    let row = c.args.self.now in
+    let n = length c.loop-start.yielded in
+    let turn = zip_turn (take row.count row.starts) (take row.count row.stops) _ c.into_iter-start-iterator.result _ c.next.new.self _ (search rules) (search rules) c.loop-start.yielded_by _ c.in-Some.is c.next.ensures.steps in
+    let start = mark_read row row.starts n _ turn.0 turn.2 in
+    let stop = mark_read row row.stops n _ turn.1 turn.3 in
+    let more : length (c.loop-start.yielded ++ (c.in-Some.start, c.in-Some.stop) ∷ []) ≡ suc n = omega (arith, length-append c.loop-start.yielded ((c.in-Some.start, c.in-Some.stop) ∷ [])) in
+    rw more (kept_more row n _ _ c.loop-start.invariant.0 (rw (← c.loop-start.invariant.1) (c.if-not-is_lawful_mark.ensures.0 refl)) start.1 stop.1)
 
 pub returns-then-not-is_lawful_mark : goal.returns-then-not-is_lawful_mark
 returns-then-not-is_lawful_mark c =
-    record {
-      sound = λ t. absurd t;
-      complete = λ l.
-          let kept = from_lawful c.args.self.now l c.loop-a.a c.loop-a-test.true in
-          let same = sym c.loop-a.invariant.1 in
-          c.if-not-is_lawful_mark.ensures.complete (rw same at kept);
-    }
+    let row = c.args.self.now in
+    let n = length c.loop-start.yielded in
+    let turn = zip_turn (take row.count row.starts) (take row.count row.stops) _ c.into_iter-start-iterator.result _ c.next.new.self _ (search rules) (search rules) c.loop-start.yielded_by _ c.in-Some.is c.next.ensures.steps in
+    let start = mark_read row row.starts n _ turn.0 turn.2 in
+    let stop = mark_read row row.stops n _ turn.1 turn.3 in
+    (
+      λ t. let never = t in cc,
+      λ l. c.if-not-is_lawful_mark.ensures.1 (rw (start.1, stop.1, c.loop-start.invariant.1) (from_lawful row l n start.0)),
+    )
 
 pub returns : goal.returns
 returns c =
-    let all : c.loop-a.a ≡ c.args.self.now.count = omega arith in
-    let floor : c.loop-a.floor ≡ floor_at c.args.self.now c.args.self.now.count =
-    c.loop-a.invariant.1 ∙ ap (floor_at c.args.self.now) all in
-    record {
-      sound = λ t.
-          to_lawful c.args.self.now (omega arith) (omega arith) (omega arith) (omega arith) (search rules)
-          (subst (Kept c.args.self.now) all c.loop-a.invariant.0)
-          (rw (← floor) (leb→le _ _ t));
-      complete = λ l. rw floor (le→leb _ _ (last_in_time c.args.self.now l));
-    }
+    let row = c.args.self.now in
+    let passed = zip_end (take row.count row.starts) (take row.count row.stops) _ c.into_iter-start-iterator.result _ c.next.new.self _ (search rules) (search rules) c.loop-start.yielded_by c.in-None.is c.next.ensures.steps in
+    let long : length (take row.count row.starts) ≡ row.count = search rules in
+    let long' : length (take row.count row.stops) ≡ row.count = search rules in
+    let all : length c.loop-start.yielded ≡ row.count = omega arith in
+    let floor : c.loop-start.floor ≡ floor_at row row.count = c.loop-start.invariant.1 ∙ ap (floor_at row) all in
+    (
+      λ t.
+          to_lawful row (omega arith) (omega arith) (omega arith) (omega arith) (search rules)
+          (subst (Kept row) all c.loop-start.invariant.0)
+          (rw (← floor) (leb-true _ _ t)),
+      λ l. rw floor (le-leb _ _ (last_in_time row l)),
+    )
