@@ -2,3 +2,4 @@ pub mod Order
 pub mod Marks
 pub mod Next
 pub mod Divisors
+pub mod Filled

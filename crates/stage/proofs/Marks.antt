@@ -1,13 +1,14 @@
 -- What the test of a row against the laws has seen, mark by mark.
 -- Assumes nothing.
-use Rattle.std.proofs.Common.{◌≡◌, ℕ, zero, suc, ◌+◌, ◌-◌, ◌%◌, ◌<◌, ◌≤◌, List, length, take, get_or, sym, refl, ◌∙◌, ap, subst, mod-lt, add-one, below_more, arith}
+use Rattle.std.proofs.Common.{◌≡◌, ℕ, zero, suc, ◌+◌, ◌-◌, ◌%◌, ◌<◌, ◌≤◌, List, map, length, take, get_or, sym, refl, ◌∙◌, ap, subst, mod-lt, add-one, below_more, arith}
 use mathlib.Core.Logic.{∥∥₁_elim}
 use mathlib.Core.HLevel.{Π_prop}
 use native.Mathlib.Bridge.{le_prop}
+use Rattle.std.specs.List.{range_with_len}
 use Rattle.std.proofs.lemmas.List.{get_or-take, length-take}
-use Rattle.std.proofs.lemmas.List.FromFn.{length-map-range_with_len, get_or-map-range_with_len}
+use Rattle.std.proofs.lemmas.List.FromFn.{length-map-range_with_len, get_or-map-range_with_len, fill_by_all}
 use Rattle.stage.specs.Stages.{Stage, Lawful, LawfulMark, lawful_prop, count_of, mark_of, start_of, stop_of}
-use Rattle.stage.specs.Rows.{stage_of, time_of}
+use Rattle.stage.specs.Rows.{row_of, stage_of, time_of}
 use Rattle.stage.specs.declared.row.Row.{Row}
 
 -- what holds below n and at n holds below n + 1
@@ -139,3 +140,19 @@ module _ (r : Row) (t : ∥ Lawful (stage_of r) ∥₁) (i : ℕ) where
   pub stop_time : stop_of (stage_of r) i ≡ time_of r r.stops i
   unfolding stop_of
   stop_time = rw (count_is r, stop_is r (i % r.count) (mod-lt i (ranges_of r t).count_low)) refl
+
+-- a row made of marks is their stage's
+pub stage-row_of : (cycle rank : ℕ) (marks : List (ℕ × ℕ)) → length marks ≤ 48
+    → stage_of (row_of cycle rank marks) ≡ record { cycle = cycle; rank = rank; marks = marks }
+stage-row_of cycle rank marks few = ap (λ (ms : List (ℕ × ℕ)). record { cycle = cycle; rank = rank; marks = ms }) (sym all)
+  where
+    r : Row
+    r = row_of cycle rank marks
+
+    all : marks ≡ map (λ (a : ℕ). (get_or r.starts a 0, get_or r.stops a 0)) (range_with_len 0 (length marks))
+    all =
+        fill_by_all _ marks _ (0, 0) refl
+        (λ k h.
+        let start = get_or-map-range_with_len (λ (a : ℕ). (get_or marks a (0, 0)).0) 0 48 k k 0 (omega arith) (omega arith) in
+        let stop = get_or-map-range_with_len (λ (a : ℕ). (get_or marks a (0, 0)).1) 0 48 k k 0 (omega arith) (omega arith) in
+        rw (start, stop) refl)

@@ -1,6 +1,6 @@
 -- The stage that a row in memory means.
 -- Assumes nothing.
-use Rattle.std.specs.Prelude.{ℕ, ◌+◌, ◌*◌, ◌/◌, ◌%◌, ◌<◌, ◌≤◌, List, map, slice_index}
+use Rattle.std.specs.Prelude.{ℕ, ◌+◌, ◌*◌, ◌/◌, ◌%◌, ◌<◌, ◌≤◌, List, map, length, slice_index, slice_index_or}
 use Rattle.std.specs.List.{range_with_len}
 use Rattle.stage.specs.Stages.{Stage, count_of, mark_of}
 use Rattle.stage.specs.declared.row.Row.{Row}
@@ -12,6 +12,17 @@ stage_of r =
       cycle = r.cycle;
       rank = r.rank;
       marks = map (λ (a : ℕ). (slice_index r.starts a, slice_index r.stops a)) (range_with_len 0 r.count);
+    }
+
+-- the row of a list of marks, with zeros past them
+abbrev pub row_of : ℕ → ℕ → List (ℕ × ℕ) → Row
+row_of cycle rank marks =
+    record {
+      cycle = cycle;
+      count = length marks;
+      rank = rank;
+      starts = map (λ (a : ℕ). (slice_index_or marks a (0, 0)).0) (range_with_len 0 48);
+      stops = map (λ (a : ℕ). (slice_index_or marks a (0, 0)).1) (range_with_len 0 48);
     }
 
 -- just the first n marks start before a time within the cycle

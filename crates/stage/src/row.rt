@@ -1,7 +1,8 @@
 // A stage as plain numbers.
-ghost use Rattle.std.specs.Prelude.{IsTrue, ◌↔◌};
-
+ghost use Rattle.std.specs.Prelude.{◌≡◌, ◌≤◌, ◌↔◌, length, IfSome, IsSome, IsTrue};
 ghost use Rattle.stage.specs.Stages.{Lawful, LawfulMark};
+
+use std::array;
 
 // The most marks a stage has.
 pub const MAX_MARKS: usize = 48;
@@ -28,7 +29,25 @@ fn is_lawful_mark(cycle: u32, floor: u32, start: u32, stop: u32) -> bool
 }
 
 impl Row {
-    ghost use Rattle.stage.specs.Rows.{stage_of};
+    ghost use Rattle.stage.specs.Rows.{row_of, stage_of};
+
+    // The row of these marks, with zeros in the entries that are not used; nothing where there are too many.
+    pub fn of_marks(cycle: u32, rank: u8, marks: &[(u32, u32)]) -> Option<Row>
+        ensures few { IsSome result ↔ (length marks.now ≤ 48) }
+        ensures row { IfSome result (λ r. r ≡ row_of cycle rank marks.now) }
+        ensures stage { IfSome result (λ r. stage_of r ≡ record { cycle = cycle; rank = rank; marks = marks.now }) }
+    {
+        if marks.len() > MAX_MARKS {
+            return None;
+        }
+        Some(Row {
+            cycle,
+            count: marks.len() as u8,
+            rank,
+            starts: array::from_fn(|a| marks.get(a).map_or(0, |mark| mark.0)),
+            stops: array::from_fn(|a| marks.get(a).map_or(0, |mark| mark.1)),
+        })
+    }
 
     // Whether the row keeps the ranges and the four laws.
     pub fn is_lawful(&self) -> bool
