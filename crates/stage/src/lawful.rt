@@ -15,10 +15,12 @@ pub struct LawfulRow {
 }
 
 impl LawfulRow {
+    ghost use Rattle.stage.specs.LawfulRow.{stage_in};
+
     // The row, where it keeps the laws; its instances then come one after the other for ever.
     pub fn new(row: Row) -> Option<LawfulRow>
         ensures refused { MatchOption result (Lawful (stage_of row) → ⊥) (λ l. l.row ≡ row) }
-        ensures ordered { IfSome result (λ l. InOrder (stage_of l.row)) }
+        ensures ordered { IfSome result (λ l. InOrder (stage_in l)) }
     {
         if row.is_lawful() {
             Some(LawfulRow { row })
@@ -36,13 +38,14 @@ impl LawfulRow {
 
     // How many of its marks start before `time` within the cycle: the first ones, since starts rise.
     fn starts_before(&self, time: u64) -> usize
-        ensures { StartBefore (stage_of self.now.row) time result }
+        ensures { StartBefore (stage_in self.now) time result }
     {
         let starts = &self.row.starts[..self.row.count as usize];
         starts.partition_point(|start| (*start as u64) < time)
     }
 
     // The time at which `marks`, the row's starts or its stops, has instance `i`; nothing where that passes 64 bits.
+    // What `start` and `stop` share; a parameter that says which of them is asked would be no plainer than two names.
     fn time_of(&self, marks: &[u32; MAX_MARKS], i: u64) -> Option<u64>
         ensures { SomeIff result (time_of self.now.row marks.now i < 2 ^ 64) (time_of self.now.row marks.now i) }
     {
@@ -55,28 +58,28 @@ impl LawfulRow {
 
     // When instance `i` starts, or nothing where that passes 64 bits.
     pub fn start(&self, i: u64) -> Option<u64>
-        ensures { SomeIff result (start_of (stage_of self.now.row) i < 2 ^ 64) (start_of (stage_of self.now.row) i) }
+        ensures { SomeIff result (start_of (stage_in self.now) i < 2 ^ 64) (start_of (stage_in self.now) i) }
     {
         self.time_of(&self.row.starts, i)
     }
 
     // When instance `i` stops, or nothing where that passes 64 bits.
     pub fn stop(&self, i: u64) -> Option<u64>
-        ensures { SomeIff result (stop_of (stage_of self.now.row) i < 2 ^ 64) (stop_of (stage_of self.now.row) i) }
+        ensures { SomeIff result (stop_of (stage_in self.now) i < 2 ^ 64) (stop_of (stage_in self.now) i) }
     {
         self.time_of(&self.row.stops, i)
     }
 
     // The last mark that starts at or before `time`, or nothing where the first starts later.
     pub fn latest_mark(&self, time: u32) -> Option<usize>
-        ensures { MatchOption result (time < (mark_of (stage_of self.now.row) 0).0) (Latest (stage_of self.now.row) time) }
+        ensures { MatchOption result (time < (mark_of (stage_in self.now) 0).0) (Latest (stage_in self.now) time) }
     {
         self.starts_before(time as u64 + 1).checked_sub(1)
     }
 
     // The first instance that starts at or after `time`.
     pub fn next(&self, time: u64) -> u64
-        ensures { FirstFrom (stage_of self.now.row) time result }
+        ensures { FirstFrom (stage_in self.now) time result }
     {
         let cycle = self.row.cycle as u64;
         time / cycle * self.row.count as u64 + self.starts_before(time % cycle) as u64

@@ -10,6 +10,7 @@ pub const MAX_MARKS: usize = 48;
 // The longest cycle, in microseconds.
 pub const MAX_CYCLE: u32 = 100_000_000;
 
+// A row is plain numbers in fixed places, as it is keyed in: so its two lists and their count stand side by side.
 // A stage repeats its marks once in each cycle, of `cycle` microseconds; of `starts` and `stops` the first
 // `count` entries are its marks. A higher rank is more urgent.
 #[derive(Clone, Copy, Debug)]
