@@ -1,5 +1,5 @@
 // Rows that keep the laws, and when their instances start and stop.
-ghost use Rattle.std.specs.Prelude.{◌≡◌, ℕ, ◌^◌, ◌<◌, IfSome, MatchOption};
+ghost use Rattle.std.specs.Prelude.{◌≡◌, ℕ, ◌^◌, ◌<◌, [], ◌∷◌, IfSome, MatchOption};
 ghost use Rattle.std.specs.Option.{SomeIff};
 ghost use Rattle.stage.specs.Stages.{Lawful, mark_of, start_of, stop_of};
 ghost use Rattle.stage.specs.Instances.{FirstFrom, InOrder};
@@ -83,5 +83,24 @@ impl LawfulRow {
     {
         let cycle = self.row.cycle as u64;
         time / cycle * self.row.count as u64 + self.starts_before(time % cycle) as u64
+    }
+}
+
+// The plainest row, with which rooms for rows can be filled: a stage that always runs.
+impl Default for LawfulRow {
+    ghost use Rattle.stage.specs.Rows.{row_of};
+
+    ghost is_default = { λ l. l.row ≡ row_of 1 0 ((0, 1) ∷ []) };
+
+    fn default() -> LawfulRow {
+        let mut row = Row {
+            cycle: 1,
+            count: 1,
+            rank: 0,
+            starts: [0; MAX_MARKS],
+            stops: [0; MAX_MARKS],
+        };
+        row.stops[0] = 1;
+        LawfulRow { row }
     }
 }

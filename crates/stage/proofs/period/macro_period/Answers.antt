@@ -1,5 +1,5 @@
 use Rattle.std.proofs.Common.{arith}
-use Rattle.stage.proofs.Divisors.{least_none, least_more, none_more, least_all}
+use Rattle.stage.proofs.Divisors.{least_none, least_more, none_more}
 use Rattle.stage.proofs.period.macro_period.Goals as goal
 
 pub loop-cycle-init : goal.loop-cycle-init
@@ -18,9 +18,3 @@ loop-cycle-preserved c =
           c.loop-cycle.invariant.0 more.0,
       more.1,
     )
-
-pub returns : goal.returns
-returns c = (
-  least_all c.args.cycles.now c.loop-cycle.cycle-index c.loop-cycle.period (omega arith) c.loop-cycle.invariant.0,
-  c.loop-cycle.invariant.1,
-)

@@ -1,13 +1,7 @@
 use Rattle.std.proofs.Common.{rules}
-use Rattle.stage.proofs.Marks.{laws_of, ranges_of}
+use Rattle.stage.proofs.Marks.{laws_of}
 use Rattle.stage.proofs.Next.{next_from, first_from_low, whole_count_low}
 use Rattle.stage.proofs.lawful.LawfulRow.next.Goals as goal
-
-pub nonzero_div-result : goal.nonzero_div-result
-nonzero_div-result c = (ranges_of _ c.args.self.now.lawful).cycle_low
-
-pub nonzero_rem-time : goal.nonzero_rem-time
-nonzero_rem-time c = (ranges_of _ c.args.self.now.lawful).cycle_low
 
 pub overflow_mul-result : goal.overflow_mul-result
 overflow_mul-result c =

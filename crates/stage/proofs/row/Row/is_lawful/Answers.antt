@@ -1,6 +1,6 @@
-use Rattle.std.proofs.Common.{◌≡◌, suc, length, take, [], ◌∷◌, ◌++◌, refl, ap, ◌∙◌, subst, leb-true, le-leb, length-append, arith, rules}
+use Rattle.std.proofs.Common.{◌≡◌, length, take, ap, ◌∙◌, subst, leb-true, le-leb, arith, rules}
 use Rattle.std.proofs.lemmas.Slice.Zip.{zip_turn, zip_end}
-use Rattle.stage.proofs.Marks.{Kept, floor_at, mark_read, kept_more, count_is, to_lawful, from_lawful, last_in_time}
+use Rattle.stage.proofs.Marks.{Kept, floor_at, mark_read, count_is, to_lawful, from_lawful, last_in_time}
 use Rattle.stage.proofs.row.Row.is_lawful.Goals as goal
 
 pub returns-then-count-lt1 : goal.returns-then-count-lt1
@@ -8,16 +8,6 @@ returns-then-count-lt1 c = (
   λ t. let never = t in cc,
   λ l. absurd (omega (arith, count_is c.args.self.now, l.count_low, l.count_high)),
 )
-
-pub loop-start-preserved : goal.loop-start-preserved
-loop-start-preserved c =
-    let row = c.args.self.now in
-    let n = length c.loop-start.yielded in
-    let turn = zip_turn (take row.count row.starts) (take row.count row.stops) _ c.into_iter-start-iterator.result _ c.next.new.self _ (search rules) (search rules) c.loop-start.yielded_by _ c.in-Some.is c.next.ensures.steps in
-    let start = mark_read row row.starts n _ turn.0 turn.2 in
-    let stop = mark_read row row.stops n _ turn.1 turn.3 in
-    let more : length (c.loop-start.yielded ++ (c.in-Some.start, c.in-Some.stop) ∷ []) ≡ suc n = omega (arith, length-append c.loop-start.yielded ((c.in-Some.start, c.in-Some.stop) ∷ [])) in
-    rw more (kept_more row n _ _ c.loop-start.invariant.0 (rw (← c.loop-start.invariant.1) (c.if-not-is_lawful_mark.ensures.0 refl)) start.1 stop.1)
 
 pub returns-then-not-is_lawful_mark : goal.returns-then-not-is_lawful_mark
 returns-then-not-is_lawful_mark c =
