@@ -10,10 +10,10 @@ use Rattle.std.specs.Option.{option_map}
 use Rattle.std.proofs.lemmas.Bool.{cases_Bool, cond-true, cond-false, ltb-false, le-leb, lt-ltb, ne_eqb, both_ways}
 use Rattle.stage.specs.Stages.{Stage}
 use Rattle.platform.specs.declared.record.Record.{Record}
-use Rattle.book.specs.declared.route.Route.{Route}
+use Rattle.arrayvec.specs.ArrayVec.{ArrayVec}
 use Rattle.book.specs.declared.table.Table.{Table}
 use Rattle.book.specs.declared.table.Task.{Task}
-use Rattle.book.specs.Keeping.{Keeps, keeps_prop, entries_of, stands}
+use Rattle.book.specs.Keeping.{Keeps, keeps_prop, seen}
 use Rattle.platform.specs.Records.{record_stage, in_range, period_in_range, offset_in_range, response_in_range}
 use Rattle.book.specs.Ledgers.{entry_stage, first_absent, on_route, refuse, ◌then◌, number_refusal, record_refusal}
 use Rattle.book.proofs.Routes.{off_route, present_all}
@@ -30,7 +30,7 @@ ranged_prop (None ∷ xs) = ranged_prop xs
 ranged_prop (Some t ∷ xs) = ×₃_prop le_prop (Bool-set _ _) (ranged_prop xs)
 
 -- what is kept, out of a book's invariant
-pub kept : (t : Table) (r : Route) → ∥ Keeps t r ∥₁ → Keeps t r
+pub kept : (t : Table) (r : ArrayVec ℕ) → ∥ Keeps t r ∥₁ → Keeps t r
 kept t r k =
     ∥∥₁_elim k
     (keeps_prop (distinct_prop t.slots) (ranged_prop t.slots)
@@ -49,7 +49,7 @@ pub empty_held : (n m : ℕ) → held_under (replicate n None) m ≡ None
 empty_held zero m = refl
 empty_held (suc n) m = empty_held n m
 
-pub empty_keeps : (t : Table) (r : Route) → t.slots ≡ replicate 32 None → entries_of r ≡ [] → Keeps t r
+pub empty_keeps : (t : Table) (r : ArrayVec ℕ) → t.slots ≡ replicate 32 None → r.items ≡ [] → Keeps t r
 empty_keeps t r slots entries =
     record {
       distinct = subst Distinct (sym slots) (empty_distinct 32);
@@ -58,14 +58,14 @@ empty_keeps t r slots entries =
     }
 
 -- a record is held under one number more, or another one under the same
-pub put_keeps : (t u : Table) (r : Route) (n : ℕ) (x : Record) (b : Bool) → Keeps t r → Distinct u.slots → Ranged u.slots
+pub put_keeps : (t u : Table) (r : ArrayVec ℕ) (n : ℕ) (x : Record) (b : Bool) → Keeps t r → Distinct u.slots → Ranged u.slots
     → ((m : ℕ) → held_under u.slots m ≡ cond b (update eqb (held_under t.slots) n (Some x) m) (held_under t.slots m))
     → Keeps u r
 put_keeps t u r n x b before d range held =
     record {
       distinct = d;
       ranged = range;
-      held = λ k h low. ap is_some (held (get_or (entries_of r) k 0)) ∙ still b (get_or (entries_of r) k 0) (before.held k h low);
+      held = λ k h low. ap is_some (held (get_or r.items k 0)) ∙ still b (get_or r.items k 0) (before.held k h low);
     }
   where
     still : (b : Bool) (m : ℕ) → is_some (held_under t.slots m) ≡ true
@@ -75,7 +75,7 @@ put_keeps t u r n x b before d range held =
         ⊎_elim (λ e. ap is_some (cond-true _ _ _ e)) (λ e. ap is_some (cond-false _ _ _ e) ∙ p) (cases_Bool (eqb n m))
 
 -- a number that is not on the route is held no more
-pub remove_keeps : (t u : Table) (r : Route) (n : ℕ) → Keeps t r → on_route (entries_of r) n ≡ false
+pub remove_keeps : (t u : Table) (r : ArrayVec ℕ) (n : ℕ) → Keeps t r → on_route r.items n ≡ false
     → Distinct u.slots → Ranged u.slots
     → ((m : ℕ) → held_under u.slots m ≡ update eqb (held_under t.slots) n None m) → Keeps u r
 remove_keeps t u r n before off d range held =
@@ -84,8 +84,8 @@ remove_keeps t u r n before off d range held =
       ranged = range;
       held = λ k h low.
           ap is_some
-          (held (get_or (entries_of r) k 0)
-          ∙ cond-false _ _ _ (ne_eqb n (get_or (entries_of r) k 0) (λ e. off_route (entries_of r) n k off h (sym e))))
+          (held (get_or r.items k 0)
+          ∙ cond-false _ _ _ (ne_eqb n (get_or r.items k 0) (λ e. off_route r.items n k off h (sym e))))
           ∙ before.held k h low;
     }
 
@@ -109,8 +109,8 @@ record_in_range r rank e =
     tests false o s k e h = cc
 
 -- a route whose entries are all held or present
-pub route_keeps : (meaning : ℕ → Option Stage) (t : Table) (old new : Route) (entries : List ℕ) → Keeps t old
-    → entries_of new ≡ entries → first_absent (entry_stage meaning (stands t old)) entries ≡ None → Keeps t new
+pub route_keeps : (meaning : ℕ → Option Stage) (t : Table) (old new : ArrayVec ℕ) (entries : List ℕ) → Keeps t old
+    → new.items ≡ entries → first_absent (entry_stage (seen meaning t old)) entries ≡ None → Keeps t new
 route_keeps meaning t old new entries before same none =
     record {
       distinct = before.distinct;
@@ -125,4 +125,4 @@ route_keeps meaning t old new entries before same none =
     held : (k : ℕ) → k < length entries → get_or entries k 0 < 128 → is_some (held_under t.slots (get_or entries k 0)) ≡ true
     held k h low =
         sym (mapped_some _) ∙ ap is_some (sym (cond-true _ _ _ (lt-ltb _ 128 low)))
-        ∙ present_all (entry_stage meaning (stands t old)) entries none k h
+        ∙ present_all (entry_stage (seen meaning t old)) entries none k h

@@ -1,3 +1,4 @@
+pub mod Positions
 pub mod Slots
 pub mod Kept
 pub mod Routes

@@ -1,19 +1,16 @@
 -- Which refusal a query comes to, check by check.
 -- Assumes nothing.
-use Rattle.std.proofs.Common.{◌≡◌, ℕ, zero, suc, ◌<◌, ◌≤◌, List, [], length, take, Some, None, Option, sym, refl, ap, ◌∙◌, subst, inl, inr, arith, MatchOption}
-use Rattle.std.proofs.lemmas.List.{length-map, length-take-le}
-use Rattle.stage.specs.declared.lawful.LawfulRow.{LawfulRow}
-use Rattle.path.specs.Given.{stage_in, stages_of}
+use Rattle.std.proofs.Common.{◌≡◌, ℕ, zero, suc, ◌<◌, ◌≤◌, List, [], ◌∷◌, length, Some, None, Option, sym, refl, ap, ◌∙◌, subst, inl, inr, arith, MatchOption}
 use Rattle.std.specs.Option.{option_map}
 use Rattle.stage.specs.Stages.{Stage}
 use Rattle.path.specs.Numbering.{semantics_number}
-use Rattle.path.specs.Refusals.{Accepted, Refused, HasMacroPeriod}
+use Rattle.path.specs.Refusals.{Accepted, Refused, HasMacroPeriod, RightLength}
 use Rattle.path.specs.declared.semantics.Semantics.{Semantics}
 use Rattle.path.specs.declared.semantics.Semantics.TheVariants.{LL, LF, FL, FF}
 use Rattle.path.specs.declared.delay.SearchFault.{SearchFault}
 use Rattle.path.specs.declared.delay.SearchFault.TheVariants.{Length, MacroPeriod, Buffer}
 use Rattle.book.specs.Faults.{Refusal, at_0, analysis_fault, search_fault}
-use Rattle.book.specs.Ledgers.{Ledger, RefusedWhere, QueryRefusal, absent_at, entry_stage, first_absent, stages_along}
+use Rattle.book.specs.Ledgers.{View, RefusedWhere, QueryRefusal, absent_at, entry_stage, first_absent, stages_along}
 
 pub none_absent : (o : Option ℕ) → None ≡ option_map absent_at o → o ≡ None
 none_absent None e = refl
@@ -33,48 +30,47 @@ number_low LF = omega arith
 number_low FL = omega arith
 number_low FF = omega arith
 
-module _ (meaning : ℕ → Option Stage) (l : Ledger) (semantics room : ℕ)
-    (present : first_absent (entry_stage meaning l) l.route ≡ None) where
+no_entries : (entries : List ℕ) → ¬ (0 < length entries) → entries ≡ []
+no_entries [] none = refl
+no_entries (x ∷ xs) none = absurd (none (omega arith))
+
+module _ (v : View) (semantics room : ℕ) (present : first_absent (entry_stage v) v.ledger.route ≡ None) where
   from_10 : (answer : Option Refusal)
       → RefusedWhere 10 (3 < semantics)
-      (RefusedWhere 11 (l.route ≡ [])
-      (RefusedWhere 12 (¬ HasMacroPeriod (stages_along meaning l))
-      (RefusedWhere 13 (room < length l.route) (λ none. none ≡ None)))) answer
-      → QueryRefusal meaning l semantics room answer
+      (RefusedWhere 11 (v.ledger.route ≡ [])
+      (RefusedWhere 12 (¬ HasMacroPeriod (stages_along v))
+      (RefusedWhere 13 (room < length v.ledger.route) (λ none. none ≡ None)))) answer
+      → QueryRefusal v semantics room answer
   from_10 answer checks =
       subst
       (λ o. MatchOption o
       (RefusedWhere 10 (3 < semantics)
-      (RefusedWhere 11 (l.route ≡ [])
-      (RefusedWhere 12 (¬ HasMacroPeriod (stages_along meaning l))
-      (RefusedWhere 13 (room < length l.route) (λ none. none ≡ None)))) answer)
+      (RefusedWhere 11 (v.ledger.route ≡ [])
+      (RefusedWhere 12 (¬ HasMacroPeriod (stages_along v))
+      (RefusedWhere 13 (room < length v.ledger.route) (λ none. none ≡ None)))) answer)
       (λ position. answer ≡ Some (absent_at position)))
       (sym present) checks
 
-  pub refused_10 : 3 < semantics → QueryRefusal meaning l semantics room (Some (at_0 10))
+  pub refused_10 : 3 < semantics → QueryRefusal v semantics room (Some (at_0 10))
   refused_10 h = from_10 (Some (at_0 10)) (inl (h, refl))
 
-  pub refused_11 : semantics ≤ 3 → l.route ≡ [] → QueryRefusal meaning l semantics room (Some (at_0 11))
+  pub refused_11 : semantics ≤ 3 → v.ledger.route ≡ [] → QueryRefusal v semantics room (Some (at_0 11))
   refused_11 h none = from_10 (Some (at_0 11)) (inr (λ k. omega arith, inl (none, refl)))
 
   -- what the search along the stages refuses, the query does
-  module _ (low : semantics ≤ 3) (few : length l.route ≤ 16) (long : length (stages_along meaning l) ≡ length l.route)
-      (some : 0 < length l.route) where
-    routed : ¬ (l.route ≡ [])
-    routed e = omega (arith, ap length e)
+  module _ (low : semantics ≤ 3) (few : length v.ledger.route ≤ 16)
+      (long : length (stages_along v) ≡ length v.ledger.route) where
+    routed : RightLength (stages_along v) → ¬ (v.ledger.route ≡ [])
+    routed right e = omega (arith, right.0, ap length e)
 
-    pub refused_search : (fault : SearchFault) → Refused fault (stages_along meaning l) room
-        → QueryRefusal meaning l semantics room (Some (analysis_fault (search_fault fault)))
-    refused_search Length h = absurd (h (omega arith, omega arith))
+    pub refused_search : (fault : SearchFault) → Refused fault (stages_along v) room
+        → QueryRefusal v semantics room (Some (analysis_fault (search_fault fault)))
+    refused_search Length h = refused_11 low (no_entries v.ledger.route (λ some. h (omega arith, omega arith)))
     refused_search MacroPeriod h =
-        from_10 (Some (at_0 12)) (inr (λ k. omega arith, inr (routed, inl (h.1, refl))))
+        from_10 (Some (at_0 12)) (inr (λ k. omega arith, inr (routed h.0, inl (h.1, refl))))
     refused_search Buffer h =
-        from_10 (Some (at_0 13)) (inr (λ k. omega arith, inr (routed, inr (λ no. no h.1, inl (omega (arith, h.2), refl)))))
+        from_10 (Some (at_0 13)) (inr (λ k. omega arith, inr (routed h.0, inr (λ no. no h.1, inl (omega (arith, h.2), refl)))))
 
-    pub accepted_search : Accepted (stages_along meaning l) room → QueryRefusal meaning l semantics room None
+    pub accepted_search : Accepted (stages_along v) room → QueryRefusal v semantics room None
     accepted_search h =
-        from_10 None (inr (λ k. omega arith, inr (routed, inr (λ no. no h.1, inr (λ k. omega (arith, h.2), refl)))))
-
--- rows that mean the stages along a route are as many
-pub along_long : (rows : List LawfulRow) (ss : List Stage) (n : ℕ) → n ≤ length rows → stages_of (take n rows) ≡ ss → length ss ≡ n
-along_long rows ss n h e = ap length (sym e) ∙ length-map (take n rows) stage_in ∙ length-take-le n rows h
+        from_10 None (inr (λ k. omega arith, inr (routed h.0, inr (λ no. no h.1, inr (λ k. omega (arith, h.2), refl)))))

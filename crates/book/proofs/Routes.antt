@@ -1,26 +1,22 @@
 -- The numbers on a route.
 -- Assumes nothing.
-use Rattle.std.proofs.Common.{◌≡◌, ℕ, zero, suc, ◌+◌, ◌<◌, ◌≤◌, Bool, true, false, cond, ◌||◌, eqb, List, [], ◌∷◌, length, get_or, drop, is_some, Some, None, Option, sym, refl, ap, ◌∙◌, arith}
-use Rattle.std.proofs.lemmas.List.{at_drop_more, at_drop_all}
-use Rattle.std.proofs.lemmas.Bool.{or_left, or_parts, eqb-false, cond-true, cond-false}
+use Rattle.std.proofs.Common.{◌≡◌, ℕ, zero, suc, ◌+◌, ◌<◌, ◌≤◌, Bool, true, false, cond, ◌||◌, eqb, List, [], ◌∷◌, length, get_or, is_some, Some, None, Option, sym, refl, ap, ◌∙◌, ⊎_elim, arith}
+use Rattle.std.specs.List.{list_any}
+use Rattle.std.proofs.lemmas.Bool.{or_parts, cases_Bool, eq-eqb, ne_eqb, eqb-true, eqb-false, cond-true, cond-false}
 use Rattle.std.specs.Option.{option_map}
 use Rattle.stage.specs.Stages.{Stage}
 use Rattle.platform.specs.Platforms.{described}
 use Rattle.book.specs.Ledgers.{on_route, first_absent}
 
-pub route_found : (entries : List ℕ) (i n : ℕ) → i < length entries → on_route entries n ≡ on_route (drop i entries) n
-    → eqb n (get_or entries i 0) ≡ true → true ≡ on_route entries n
-route_found entries i n h before here =
-    sym (before ∙ at_drop_more (λ xs. on_route xs n) entries i 0 h ∙ or_left _ _ here)
+eqb_comm : (a b : ℕ) → eqb a b ≡ eqb b a
+eqb_comm a b =
+    ⊎_elim (λ e. e ∙ sym (eq-eqb b a (sym (eqb-true a b e)))) (λ e. e ∙ sym (ne_eqb b a (λ h. eqb-false a b e (sym h))))
+    (cases_Bool (eqb a b))
 
-pub route_more : (entries : List ℕ) (i n : ℕ) → i < length entries → on_route entries n ≡ on_route (drop i entries) n
-    → eqb n (get_or entries i 0) ≡ false → on_route entries n ≡ on_route (drop (i + 1) entries) n
-route_more entries i n h before here =
-    before ∙ at_drop_more (λ xs. on_route xs n) entries i 0 h ∙ ap (λ b. b || on_route (drop (i + 1) entries) n) here
-
-pub route_all : (entries : List ℕ) (i n : ℕ) → length entries ≤ i → on_route entries n ≡ on_route (drop i entries) n
-    → false ≡ on_route entries n
-route_all entries i n h before = sym (before ∙ at_drop_all (λ xs. on_route xs n) entries i h)
+-- whether a number is on the route, by the library's word
+pub on_route-any : (entries : List ℕ) (n : ℕ) → list_any (λ (e : ℕ). eqb e n) entries ≡ on_route entries n
+on_route-any [] n = refl
+on_route-any (x ∷ xs) n = ap (λ b. b || list_any (λ (e : ℕ). eqb e n) xs) (eqb_comm x n) ∙ ap (λ b. eqb n x || b) (on_route-any xs n)
 
 -- a number that is not on the route is none of its entries
 pub off_route : (entries : List ℕ) (n k : ℕ) → on_route entries n ≡ false → k < length entries → get_or entries k 0 ≡ n → ⊥

@@ -1,9 +1,11 @@
 -- The search through the slots of a table, and what a change of one slot does.
 -- Assumes nothing.
-use Rattle.std.proofs.Common.{◌≡◌, ℕ, zero, suc, ◌+◌, ◌<◌, ◌≤◌, Bool, true, false, cond, eqb, List, [], ◌∷◌, length, get_or, drop, set, is_some, Some, None, Option, sym, refl, ap, ◌∙◌, ⊎_elim, arith, MatchOption}
+use Rattle.std.proofs.Common.{◌≡◌, ℕ, zero, suc, ◌+◌, ◌<◌, ◌≤◌, Bool, true, false, cond, eqb, List, [], ◌∷◌, length, get_or, set, not, is_some, Some, None, Option, sym, refl, ap, ◌∙◌, ⊎_elim, arith, MatchOption}
 use Rattle.std.specs.Map.{update}
-use Rattle.std.proofs.lemmas.List.{drop_more, drop_all}
-use Rattle.std.proofs.lemmas.Bool.{cond-true, cond-false, both_ways, cases_Bool, eqb-true, eqb-false, eq-eqb, ne_eqb, lt-ltb, le-ltb, cases_eq, or_left, or_right, or_from}
+use Rattle.std.specs.List.{position}
+use Rattle.std.proofs.lemmas.List.Quantifiers.{position-Some}
+use Rattle.book.proofs.Positions.{position-None}
+use Rattle.std.proofs.lemmas.Bool.{cond-true, cond-false, both_ways, not-true, cases_Bool, eqb-true, eqb-false, eq-eqb, ne_eqb, lt-ltb, le-ltb, cases_eq, or_left, or_right, or_from}
 use Rattle.platform.specs.declared.record.Record.{Record}
 use Rattle.platform.specs.Records.{in_range}
 use Rattle.book.specs.declared.table.Task.{Task}
@@ -19,35 +21,43 @@ pub none_held : (o : Option Record) → is_some o ≡ false → o ≡ None
 none_held None e = refl
 none_held (Some r) e = absurd (both_ways true e refl)
 
--- where the slots from i on have what all have, and slot i has the number, it is found there
-pub found_at : (slots : List (Option Task)) (i n : ℕ) → i < length slots → held_under slots n ≡ held_under (drop i slots) n
-    → has_number (get_or slots i None) n ≡ true → Found slots i n
-found_at slots i n h before has =
-    record {
-      inside = h;
-      has = has;
-      held = before ∙ ap (λ xs. held_under xs n) (drop_more slots i None h) ∙ cond-true _ _ _ has;
-    }
+-- the first slot that has the number has its record
+first_holds : (slots : List (Option Task)) (i n : ℕ) → i < length slots → has_number (get_or slots i None) n ≡ true
+    → ((k : ℕ) → k < i → has_number (get_or slots k None) n ≡ false) → held_under slots n ≡ record_in (get_or slots i None)
+first_holds [] i n h here before = absurd (omega arith)
+first_holds (x ∷ xs) zero n h here before = cond-true _ _ _ here
+first_holds (x ∷ xs) (suc i) n h here before =
+    cond-false _ _ _ (before 0 (omega arith))
+    ∙ first_holds xs i n (omega arith) here (λ k below. before (suc k) (omega arith))
 
-pub passed_more : (slots : List (Option Task)) (i n : ℕ) → i < length slots → held_under slots n ≡ held_under (drop i slots) n
-    → has_number (get_or slots i None) n ≡ false → held_under slots n ≡ held_under (drop (i + 1) slots) n
-passed_more slots i n h before not =
-    before ∙ ap (λ xs. held_under xs n) (drop_more slots i None h) ∙ cond-false _ _ _ not
-
-pub passed_all : (slots : List (Option Task)) (i n : ℕ) → length slots ≤ i → held_under slots n ≡ held_under (drop i slots) n
+none_holds : (slots : List (Option Task)) (n : ℕ) → ((k : ℕ) → k < length slots → has_number (get_or slots k None) n ≡ false)
     → held_under slots n ≡ None
-passed_all slots i n h before = before ∙ ap (λ xs. held_under xs n) (drop_all i slots h)
+none_holds [] n all = refl
+none_holds (x ∷ xs) n all =
+    cond-false _ _ _ (all 0 (omega arith)) ∙ none_holds xs n (λ k below. all (suc k) (omega arith))
 
-pub vacant_more : (slots : List (Option Task)) (i : ℕ) → i < length slots → vacant slots ≡ vacant (drop i slots)
-    → is_some (get_or slots i None) ≡ true → vacant slots ≡ vacant (drop (i + 1) slots)
-vacant_more slots i h before some = before ∙ ap vacant (drop_more slots i None h) ∙ taken (get_or slots i None) some
-  where
-    taken : (slot : Option Task) → is_some slot ≡ true → vacant (slot ∷ drop (i + 1) slots) ≡ vacant (drop (i + 1) slots)
-    taken None e = absurd (both_ways false refl e)
-    taken (Some t) e = refl
+pub found_by_number : (slots : List (Option Task)) (n : ℕ) (o : Option ℕ) → o ≡ position (λ (s : Option Task). has_number s n) slots
+    → MatchOption o (held_under slots n ≡ None) (λ i. Found slots i n)
+found_by_number slots n None e = none_holds slots n (λ k below. position-None _ slots (sym e) k None below)
+found_by_number slots n (Some i) e =
+    let at = position-Some _ slots i None (sym e) in
+    record { inside = at.0; has = at.1; held = first_holds slots i n at.0 at.1 at.2 }
 
-pub vacant_all : (slots : List (Option Task)) (i : ℕ) → length slots ≤ i → vacant slots ≡ vacant (drop i slots) → vacant slots ≡ 0
-vacant_all slots i h before = before ∙ ap vacant (drop_all i slots h)
+pub none_of : (slot : Option Task) → is_some slot ≡ false → slot ≡ None
+none_of None e = refl
+none_of (Some t) e = absurd (both_ways true e refl)
+
+none_vacant : (slots : List (Option Task)) → ((k : ℕ) → k < length slots → not (is_some (get_or slots k None)) ≡ false) → vacant slots ≡ 0
+none_vacant [] all = refl
+none_vacant (None ∷ xs) all = absurd (both_ways true (all 0 (omega arith)) refl)
+none_vacant (Some t ∷ xs) all = none_vacant xs (λ k below. all (suc k) (omega arith))
+
+pub found_vacant : (slots : List (Option Task)) (o : Option ℕ) → o ≡ position (λ (s : Option Task). not (is_some s)) slots
+    → MatchOption o (vacant slots ≡ 0) (Vacant slots)
+found_vacant slots None e = none_vacant slots (λ k below. position-None _ slots (sym e) k None below)
+found_vacant slots (Some i) e =
+    let at = position-Some _ slots i None (sym e) in
+    record { inside = at.0; empty = none_of _ (not-true _ at.1) }
 
 -- A slot that does not have the number m may change to another that has not.
 pub set_other : (slots : List (Option Task)) (i m : ℕ) (s : Option Task)
@@ -233,6 +243,14 @@ module _ (slots : List (Option Task)) (d : Distinct slots) (range : Ranged slots
   free_ready n None none taken = no_room n none taken
   free_ready n (Some i) none free = vacant_ready i n none free
 
+  -- the slot that has the number, or else a free one, is ready for it
+  pub either_ready : (n : ℕ) (found taken : Option ℕ) → MatchOption found (held_under slots n ≡ None) (λ i. Found slots i n)
+      → (found ≡ None → MatchOption taken (vacant slots ≡ 0) (Vacant slots)) → ((i : ℕ) → found ≡ Some i → taken ≡ Some i)
+      → MatchOption taken (has_room slots n ≡ false) (λ i. Ready slots i n)
+  either_ready n None taken none free same = free_ready n taken none (free refl)
+  either_ready n (Some i) taken found free same =
+      rw (same i refl) (found_ready slots i n d found)
+
 -- what is held after a slot took a record
 pub put_held : (slots : List (Option Task)) (i : ℕ) (t : Task) → Ready slots i t.number
     → (m : ℕ) → held_under (set slots i (Some t)) m ≡ update eqb (held_under slots) t.number (Some t.record) m
@@ -264,10 +282,6 @@ absent_held slots n none m =
     (λ e. ap (held_under slots) (sym (eqb-true n m e)) ∙ none ∙ sym (cond-true _ _ _ e))
     (λ e. sym (cond-false _ _ _ e))
     (cases_Bool (eqb n m))
-
-pub none_of : (slot : Option Task) → is_some slot ≡ false → slot ≡ None
-none_of None e = refl
-none_of (Some t) e = absurd (both_ways true e refl)
 
 -- a held record is in range
 pub held_in_range : (slots : List (Option Task)) (n : ℕ) (r : Record) → Ranged slots → Some r ≡ held_under slots n → in_range r ≡ true

@@ -16,6 +16,11 @@ pub record Ledger : Type 0 where
   pub records : ℕ → Option Record
   pub route : List ℕ
 
+-- What a book says to its reader: the stages of its platform by number, and its ledger.
+pub record View : Type 0 where
+  pub platform : ℕ → Option Stage
+  pub ledger : Ledger
+
 -- how many of the numbers below n are held
 unfoldable pub held_count : (ℕ → Option Record) → ℕ → ℕ
 held_count records zero = 0
@@ -67,8 +72,8 @@ abbrev pub retired : Ledger → ℕ → Ledger
 retired l n = unless_refused (retire_refusal l n) l (with_record l n None)
 
 -- The stage of a route entry: below 128 a title task's, by its record; from 128 on the platform's.
-abbrev pub entry_stage : (ℕ → Option Stage) → Ledger → ℕ → Option Stage
-entry_stage meaning l entry = cond (nat_lt entry 128) (option_map record_stage (l.records entry)) (meaning (entry - 128))
+abbrev pub entry_stage : View → ℕ → Option Stage
+entry_stage v entry = cond (nat_lt entry 128) (option_map record_stage (v.ledger.records entry)) (v.platform (entry - 128))
 
 -- the first position whose entry is neither held nor present
 abbrev pub first_absent : (ℕ → Option Stage) → List ℕ → Option ℕ
@@ -83,26 +88,26 @@ abbrev pub outside_lengths : List ℕ → Bool
 outside_lengths entries = length entries == 0 || nat_lt 16 (length entries)
 
 -- route: sets the route to its list
-abbrev pub route_refusal : (ℕ → Option Stage) → Ledger → List ℕ → Option Refusal
-route_refusal meaning l entries =
+abbrev pub route_refusal : View → List ℕ → Option Refusal
+route_refusal v entries =
     refuse 8 (outside_lengths entries)
-    then option_map absent_at (first_absent (entry_stage meaning l) entries)
+    then option_map absent_at (first_absent (entry_stage v) entries)
 
-abbrev pub routed : (ℕ → Option Stage) → Ledger → List ℕ → Ledger
-routed meaning l entries =
-    unless_refused (route_refusal meaning l entries) l (record { records = l.records; route = entries })
+abbrev pub routed : View → List ℕ → Ledger
+routed v entries =
+    unless_refused (route_refusal v entries) v.ledger (record { records = v.ledger.records; route = entries })
 
 -- the stage at a position of the route
-abbrev pub stage_at : (ℕ → Option Stage) → Ledger → ℕ → Option Stage
-stage_at meaning l position = elim (slice_get l.route position) [ None ↦ None | Some entry ↦ entry_stage meaning l entry ]
+abbrev pub stage_at : View → ℕ → Option Stage
+stage_at v position = elim (slice_get v.ledger.route position) [ None ↦ None | Some entry ↦ entry_stage v entry ]
 
 -- the cycle of a stage; an absent one has none, 0
 abbrev pub cycle_of : Option Stage → ℕ
 cycle_of None = 0
 cycle_of (Some s) = s.cycle
 
-abbrev pub cycles_along : (ℕ → Option Stage) → Ledger → List ℕ
-cycles_along meaning l = map (λ entry. cycle_of (entry_stage meaning l entry)) l.route
+abbrev pub cycles_along : View → List ℕ
+cycles_along v = map (λ entry. cycle_of (entry_stage v entry)) v.ledger.route
 
 -- without a route the one fact, with a route the other
 abbrev pub RoutedOrNot : List ℕ → Type 0 → Type 0 → Type 0
@@ -110,8 +115,8 @@ RoutedOrNot [] without with = without
 RoutedOrNot (entry ∷ entries) without with = with
 
 -- the macro-period of the route, where there is one
-abbrev pub RoutePeriod : (ℕ → Option Stage) → Ledger → Option ℕ → Type 0
-RoutePeriod meaning l answer = RoutedOrNot l.route (answer ≡ None) (IsMacroPeriod (cycles_along meaning l) answer)
+abbrev pub RoutePeriod : View → Option ℕ → Type 0
+RoutePeriod v answer = RoutedOrNot v.ledger.route (answer ≡ None) (IsMacroPeriod (cycles_along v) answer)
 
 -- the stages along the route: a title number's by its record, another's by the platform
 abbrev pub present_stages : List (Option Stage) → List Stage
@@ -119,20 +124,20 @@ present_stages [] = []
 present_stages (None ∷ stages) = present_stages stages
 present_stages (Some s ∷ stages) = s ∷ present_stages stages
 
-abbrev pub stages_along : (ℕ → Option Stage) → Ledger → List Stage
-stages_along meaning l = present_stages (map (entry_stage meaning l) l.route)
+abbrev pub stages_along : View → List Stage
+stages_along v = present_stages (map (entry_stage v) v.ledger.route)
 
 -- Where a fact holds, the call is refused by a number, and otherwise the later checks decide.
 abbrev pub RefusedWhere : ℕ → Type 0 → (Option Refusal → Type 0) → Option Refusal → Type 0
 RefusedWhere number fact later answer = (fact × (answer ≡ Some (at_0 number))) ⊎ ((¬ fact) × later answer)
 
 -- query: which refusal comes, if any, for a semantics by its number and a buffer with so much room
-abbrev pub QueryRefusal : (ℕ → Option Stage) → Ledger → ℕ → ℕ → Option Refusal → Type 0
-QueryRefusal meaning l semantics room answer =
-    MatchOption (first_absent (entry_stage meaning l) l.route)
+abbrev pub QueryRefusal : View → ℕ → ℕ → Option Refusal → Type 0
+QueryRefusal v semantics room answer =
+    MatchOption (first_absent (entry_stage v) v.ledger.route)
     (RefusedWhere 10 (3 < semantics)
-    (RefusedWhere 11 (l.route ≡ [])
-    (RefusedWhere 12 (¬ HasMacroPeriod (stages_along meaning l))
-    (RefusedWhere 13 (room < length l.route)
+    (RefusedWhere 11 (v.ledger.route ≡ [])
+    (RefusedWhere 12 (¬ HasMacroPeriod (stages_along v))
+    (RefusedWhere 13 (room < length v.ledger.route)
     (λ none. none ≡ None)))) answer)
     (λ position. answer ≡ Some (absent_at position))

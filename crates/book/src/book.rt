@@ -1,19 +1,22 @@
 // The book.
 ghost use Rattle.book.specs.Keeping.{Keeps};
 
-use crate::route::Route;
 use crate::table::Table;
+use arrayvec::ArrayVec;
+use path::MAX_LENGTH;
+use platform::Number;
 
 // An open book can be edited.
 #[derive(Clone, Copy)]
 pub struct Open;
 
-// A title's tasks and its route over the platform `P`; `S` says what may be done with it.
+// A title's tasks and its route over the platform `P`, which has no entries where there is none; `S` says what may be
+// done with the book.
 #[derive(Drop)]
 pub struct Book<P, S> {
     platform: P,
     table: Table,
-    route: Route,
+    route: ArrayVec<Number, MAX_LENGTH>,
     state: S,
     ghost keeps: { ∥ Keeps table route ∥₁ },
 }

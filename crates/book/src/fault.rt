@@ -2,34 +2,48 @@
 ghost use Rattle.std.specs.Prelude.{◌≡◌};
 ghost use Rattle.book.specs.declared.fault.RouteFault.TheVariants.{Task as task_case};
 ghost use Rattle.book.specs.declared.fault.AnalysisFault.TheVariants.{Route as route_case};
-ghost use Rattle.book.specs.Faults.{analysis_fault, route_fault, search_fault, task_fault};
+ghost use Rattle.book.specs.Faults.{Refusal, analysis_fault, route_fault, search_fault, task_fault};
 
 use path::SearchFault;
+use thiserror::Error;
+
+// A refusal by number and place, whichever layer it comes from.
+pub trait Fault {
+    ghost refusal: { Self → Refusal };
+
+    // The refusal's number.
+    fn number(self) -> u8
+        ensures { result ≡ (refusal self).number };
+
+    // Where the fault is: the first position that is neither held nor present, otherwise 0.
+    fn place(self) -> usize
+        ensures { result ≡ (refusal self).place };
+}
 
 // Faults of a task's number and record.
-#[derive(Clone, Copy, Debug, PartialEq, Eq)]
+#[derive(Clone, Copy, Debug, PartialEq, Eq, Error)]
 pub enum TaskFault {
-    // the number is above 127
+    #[error("the number is above 127")]
     Number,
-    // the period is outside 100 to 1,000,000
+    #[error("the period is outside 100 to 1000000")]
     Period,
-    // the offset is not below the period
+    #[error("the offset is not below the period")]
     Offset,
-    // the response is 0 or above the period
+    #[error("the response is 0 or above the period")]
     Response,
-    // a new number, and 32 tasks are held
+    // the number is a new one
+    #[error("32 tasks are held")]
     Full,
-    // the number is not held
+    #[error("the number is not held")]
     NotHeld,
-    // the number is on the route
+    #[error("the number is on the route")]
     OnRoute,
 }
 
-impl TaskFault {
-    // The refusal's number.
-    pub fn number(self) -> u8
-        ensures { result ≡ (task_fault self).number }
-    {
+impl Fault for TaskFault {
+    ghost refusal = { task_fault };
+
+    fn number(self) -> u8 {
         match self {
             TaskFault::Number => 1,
             TaskFault::Period => 2,
@@ -40,24 +54,28 @@ impl TaskFault {
             TaskFault::OnRoute => 7,
         }
     }
+
+    fn place(self) -> usize {
+        0
+    }
 }
 
 // Faults of a route.
-#[derive(Clone, Copy, Debug, PartialEq, Eq)]
+#[derive(Clone, Copy, Debug, PartialEq, Eq, Error)]
 pub enum RouteFault {
-    // a fault of a task
+    #[error(transparent)]
     Task(TaskFault),
-    // the length is outside 1 to 16
+    #[error("a route has 1 to 16 entries")]
     Length,
-    // the entry at this position is neither held nor present
+    // the entry at this position
+    #[error("the entry at this place is neither held nor present")]
     Absent(usize),
 }
 
-impl RouteFault {
-    // The refusal's number.
-    pub fn number(self) -> u8
-        ensures { result ≡ (route_fault self).number }
-    {
+impl Fault for RouteFault {
+    ghost refusal = { route_fault };
+
+    fn number(self) -> u8 {
         match self {
             RouteFault::Task(fault) => fault.number(),
             RouteFault::Length => 8,
@@ -65,13 +83,11 @@ impl RouteFault {
         }
     }
 
-    // Where the fault is: the first position that is neither held nor present, otherwise 0.
-    pub fn place(self) -> usize
-        ensures { result ≡ (route_fault self).place }
-    {
+    fn place(self) -> usize {
         match self {
+            RouteFault::Task(fault) => fault.place(),
+            RouteFault::Length => 0,
             RouteFault::Absent(position) => position,
-            RouteFault::Task(_) | RouteFault::Length => 0,
         }
     }
 }
@@ -85,25 +101,24 @@ impl From<TaskFault> for RouteFault {
 }
 
 // Faults of an analysis.
-#[derive(Clone, Copy, Debug, PartialEq, Eq)]
+#[derive(Clone, Copy, Debug, PartialEq, Eq, Error)]
 pub enum AnalysisFault {
-    // a fault of the route
+    #[error(transparent)]
     Route(RouteFault),
-    // the semantics is above 3
+    #[error("the semantics is above 3")]
     Semantics,
-    // there is no route
+    #[error("there is no route")]
     NoRoute,
-    // the macro-period is above 100,000,000
+    #[error("the macro-period is above 100000000")]
     MacroPeriod,
-    // the buffer is shorter than the route
+    #[error("the buffer is shorter than the route")]
     Buffer,
 }
 
-impl AnalysisFault {
-    // The refusal's number.
-    pub fn number(self) -> u8
-        ensures { result ≡ (analysis_fault self).number }
-    {
+impl Fault for AnalysisFault {
+    ghost refusal = { analysis_fault };
+
+    fn number(self) -> u8 {
         match self {
             AnalysisFault::Route(route) => route.number(),
             AnalysisFault::Semantics => 10,
@@ -113,10 +128,7 @@ impl AnalysisFault {
         }
     }
 
-    // Where the fault is: a route's fault says it, otherwise 0.
-    pub fn place(self) -> usize
-        ensures { result ≡ (analysis_fault self).place }
-    {
+    fn place(self) -> usize {
         match self {
             AnalysisFault::Route(route) => route.place(),
             AnalysisFault::Semantics

@@ -4,11 +4,10 @@
 pub mod answer;
 pub mod book;
 pub mod fault;
-mod route;
 mod table;
 #[cfg(test)]
 mod tests;
 
 pub use answer::Answer;
 pub use book::{Book, Open};
-pub use fault::{AnalysisFault, RouteFault, TaskFault};
+pub use fault::{AnalysisFault, Fault, RouteFault, TaskFault};

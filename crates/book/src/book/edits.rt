@@ -1,13 +1,14 @@
 // The calls that change a book.
-ghost use Rattle.std.specs.Prelude.{◌≡◌, ℕ, [], None};
+ghost use Rattle.std.specs.Prelude.{◌≡◌, ℕ, [], None, IfOk};
 ghost use Rattle.book.specs.Faults.{refused_by, route_fault, task_fault};
-ghost use Rattle.book.specs.Books.{ledger_of};
-ghost use Rattle.book.specs.Ledgers.{enter_refusal, entered, number_refusal, record_refusal, retire_refusal, retired, route_refusal, routed};
+ghost use Rattle.book.specs.Books.{Becomes, ledger_of, view_of};
+ghost use Rattle.book.specs.Ledgers.{enter_refusal, entered, number_refusal, outside_lengths, record_refusal, refuse, retire_refusal, retired, route_refusal, routed};
 
 use crate::book::{Book, Open};
 use crate::fault::{RouteFault, TaskFault};
-use crate::route::Route;
 use crate::table::Table;
+use arrayvec::ArrayVec;
+use path::MAX_LENGTH;
 use platform::{Number, Platform, Record};
 
 // The highest number of a title task.
@@ -38,6 +39,17 @@ fn check_record(record: Record) -> Result<(), TaskFault>
     Ok(())
 }
 
+// The entries as a route, where there are 1 to 16.
+fn route_of(entries: &[Number]) -> Result<ArrayVec<Number, MAX_LENGTH>, RouteFault>
+    ensures refused { refused_by route_fault result ≡ refuse 8 (outside_lengths entries.now) }
+    ensures entries { IfOk result (λ route. route.items ≡ entries.now) }
+{
+    if entries.is_empty() {
+        return Err(RouteFault::Length);
+    }
+    ArrayVec::try_from(entries).map_err(|_| RouteFault::Length)
+}
+
 impl<P: Platform> Book<P, Open> {
     // An empty book over a platform.
     pub fn new(platform: P) -> Book<P, Open>
@@ -48,7 +60,7 @@ impl<P: Platform> Book<P, Open> {
         Book {
             platform,
             table: Table::empty(),
-            route: Route::none(),
+            route: ArrayVec::new(),
             state: Open,
         }
     }
@@ -56,28 +68,23 @@ impl<P: Platform> Book<P, Open> {
     // Holds the record under the number; on a held number it replaces that one record.
     pub fn enter(&mut self, number: Number, record: Record) -> Result<(), TaskFault>
         ensures refused { refused_by task_fault result ≡ enter_refusal (ledger_of self.old) number «record» }
-        ensures after { ledger_of self.new ≡ entered (ledger_of self.old) number «record» }
-        ensures platform { self.new.platform ≡ self.old.platform }
+        ensures after { Becomes self.old self.new (entered (ledger_of self.old) number «record») }
     {
         check_number(number)?;
         check_record(record)?;
-        if !self.table.put(number, record) {
-            return Err(TaskFault::Full);
-        }
-        Ok(())
+        self.table.put(number, record)
     }
 
     // Holds the number no more.
     pub fn retire(&mut self, number: Number) -> Result<(), TaskFault>
         ensures refused { refused_by task_fault result ≡ retire_refusal (ledger_of self.old) number }
-        ensures after { ledger_of self.new ≡ retired (ledger_of self.old) number }
-        ensures platform { self.new.platform ≡ self.old.platform }
+        ensures after { Becomes self.old self.new (retired (ledger_of self.old) number) }
     {
         check_number(number)?;
         if self.table.get(number).is_none() {
             return Err(TaskFault::NotHeld);
         }
-        if self.route.contains(number) {
+        if self.route.contains(&number) {
             return Err(TaskFault::OnRoute);
         }
         self.table.remove(number);
@@ -86,16 +93,11 @@ impl<P: Platform> Book<P, Open> {
 
     // Replaces the route.
     pub fn route(&mut self, entries: &[Number]) -> Result<(), RouteFault>
-        ensures refused { refused_by route_fault result ≡ route_refusal (P.Platform.meaning self.old.platform) (ledger_of self.old) entries.now }
-        ensures after { ledger_of self.new ≡ routed (P.Platform.meaning self.old.platform) (ledger_of self.old) entries.now }
-        ensures platform { self.new.platform ≡ self.old.platform }
+        ensures refused { refused_by route_fault result ≡ route_refusal (view_of P.Platform self.old) entries.now }
+        ensures after { Becomes self.old self.new (routed (view_of P.Platform self.old) entries.now) }
     {
-        let Some(route) = Route::new(entries) else {
-            return Err(RouteFault::Length);
-        };
-        if let Some(position) = self.first_absent(entries) {
-            return Err(RouteFault::Absent(position));
-        }
+        let route = route_of(entries)?;
+        self.check_entries(entries)?;
         self.route = route;
         Ok(())
     }

@@ -2,11 +2,15 @@
 ghost use Rattle.std.specs.Prelude.{◌≡◌, ◌≤◌, length};
 ghost use Rattle.std.specs.List.{slice_get};
 ghost use Rattle.platform.specs.Platforms.{described, marked};
-ghost use Rattle.book.specs.Books.{ledger_of};
-ghost use Rattle.book.specs.Ledgers.{RoutePeriod, entry_stage, first_absent, stage_at};
+ghost use Rattle.std.specs.Option.{option_map};
+ghost use Rattle.book.specs.Books.{ledger_of, view_of};
+ghost use Rattle.book.specs.Faults.{refused_by, route_fault};
+ghost use Rattle.book.specs.Ledgers.{RoutePeriod, absent_at, entry_stage, first_absent, stage_at};
 
 use crate::book::Book;
-use crate::route::MAX_ROUTE;
+use crate::fault::RouteFault;
+use arrayvec::ArrayVec;
+use path::MAX_LENGTH;
 use platform::{Number, Platform};
 
 // Route numbers from here on name platform stages, counted from 0.
@@ -15,7 +19,7 @@ const FIRST_PLATFORM_ENTRY: Number = 128;
 impl<P: Platform, S> Book<P, S> {
     // Cycle, count and rank of a route entry's stage; nothing where it is neither held nor present.
     pub(crate) fn describe_entry(&self, entry: Number) -> Option<(u32, u8, u8)>
-        ensures { result ≡ described (entry_stage (P.Platform.meaning self.now.platform) (ledger_of self.now) entry) }
+        ensures { result ≡ described (entry_stage (view_of P.Platform self.now) entry) }
     {
         if entry >= FIRST_PLATFORM_ENTRY {
             return self.platform.describe(entry - FIRST_PLATFORM_ENTRY);
@@ -24,21 +28,20 @@ impl<P: Platform, S> Book<P, S> {
         Some((record.period, 1, record.rank))
     }
 
-    // The first position whose entry is neither held nor present.
-    pub(crate) fn first_absent(&self, entries: &[Number]) -> Option<usize>
-        ensures { result ≡ first_absent (entry_stage (P.Platform.meaning self.now.platform) (ledger_of self.now)) entries.now }
+    // Looks at the entries one by one.
+    pub(crate) fn check_entries(&self, entries: &[Number]) -> Result<(), RouteFault>
+        ensures { refused_by route_fault result ≡ option_map absent_at (first_absent (entry_stage (view_of P.Platform self.now)) entries.now) }
     {
         for (position, entry) in entries.iter().enumerate() {
-            if self.describe_entry(*entry).is_none() {
-                return Some(position);
-            }
+            self.describe_entry(*entry)
+                .ok_or(RouteFault::Absent(position))?;
         }
-        None
+        Ok(())
     }
 
     // Start and stop of mark `a` of a route entry's stage; nothing where there is none.
     pub(crate) fn mark_of_entry(&self, entry: Number, a: u8) -> Option<(u32, u32)>
-        ensures { result ≡ marked (entry_stage (P.Platform.meaning self.now.platform) (ledger_of self.now) entry) a }
+        ensures { result ≡ marked (entry_stage (view_of P.Platform self.now) entry) a }
     {
         if entry >= FIRST_PLATFORM_ENTRY {
             return self.platform.mark(entry - FIRST_PLATFORM_ENTRY, a);
@@ -56,24 +59,19 @@ impl<P: Platform, S> Book<P, S> {
         ensures value { result ≡ length (ledger_of self.now).route }
         ensures short { result ≤ 16 }
     {
-        self.route.as_slice().len()
+        self.route.len()
     }
 
     // The entry at a position of the route; nothing past its end.
     pub fn entry_at(&self, position: usize) -> Option<Number>
         ensures { result ≡ slice_get (ledger_of self.now).route position }
     {
-        let entries = self.route.as_slice();
-        if position < entries.len() {
-            Some(entries[position])
-        } else {
-            None
-        }
+        self.route.get(position).copied()
     }
 
     // Cycle, count and rank of the stage at a position of the route; nothing past its end.
     pub fn describe(&self, position: usize) -> Option<(u32, u8, u8)>
-        ensures { result ≡ described (stage_at (P.Platform.meaning self.now.platform) (ledger_of self.now) position) }
+        ensures { result ≡ described (stage_at (view_of P.Platform self.now) position) }
     {
         let entry = self.entry_at(position)?;
         self.describe_entry(entry)
@@ -81,7 +79,7 @@ impl<P: Platform, S> Book<P, S> {
 
     // Start and stop of mark `a` of the stage at a position of the route; nothing past their ends.
     pub fn mark(&self, position: usize, a: u8) -> Option<(u32, u32)>
-        ensures { result ≡ marked (stage_at (P.Platform.meaning self.now.platform) (ledger_of self.now) position) a }
+        ensures { result ≡ marked (stage_at (view_of P.Platform self.now) position) a }
     {
         let entry = self.entry_at(position)?;
         self.mark_of_entry(entry, a)
@@ -89,19 +87,16 @@ impl<P: Platform, S> Book<P, S> {
 
     // The least common multiple of the cycles along the route, where it is not above 100,000,000.
     pub fn macro_period(&self) -> Option<u32>
-        ensures { RoutePeriod (P.Platform.meaning self.now.platform) (ledger_of self.now) result }
+        ensures { RoutePeriod (view_of P.Platform self.now) result }
     {
-        let entries = self.route.as_slice();
-        if entries.is_empty() {
+        if self.route.is_empty() {
             return None;
         }
-        let mut cycles = [0; MAX_ROUTE];
-        for (i, entry) in entries.iter().enumerate() {
-            let Some((cycle, _, _)) = self.describe_entry(*entry) else {
-                return None;
-            };
-            cycles[i] = cycle;
+        let mut cycles = ArrayVec::<u32, MAX_LENGTH>::new();
+        for entry in self.route.as_slice() {
+            let (cycle, _, _) = self.describe_entry(*entry)?;
+            cycles.push(cycle);
         }
-        stage::macro_period(&cycles[0..entries.len()])
+        stage::macro_period(cycles.as_slice())
     }
 }

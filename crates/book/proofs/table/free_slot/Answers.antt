@@ -1,18 +1,11 @@
-use Rattle.std.proofs.Common.{◌<◌, ◌≤◌, length, rules}
-use Rattle.book.proofs.Slots.{none_of, vacant_more, vacant_all}
+use Rattle.std.proofs.Common.{not, is_some, rules, tests}
+use Rattle.std.proofs.lemmas.Iterator.{YieldsList-from_slice}
+use Rattle.std.proofs.lemmas.Iterator.Search.{position_from_yields_List}
+use Rattle.book.proofs.Slots.{found_vacant}
 use Rattle.book.proofs.table.free_slot.Goals as goal
 
-pub returns-then-is_none : goal.returns-then-is_none
-returns-then-is_none c =
-    let h : c.loop-i.i < length c.args.slots.now = search rules in
-    record { inside = search rules; found = record { inside = h; empty = none_of _ c.if-is_none.ensures } }
-
-pub loop-i-preserved : goal.loop-i-preserved
-loop-i-preserved c =
-    let h : c.loop-i.i < length c.args.slots.now = search rules in
-    vacant_more _ _ h c.loop-i.invariant (search rules)
-
-pub returns : goal.returns
-returns c =
-    let h : length c.args.slots.now ≤ c.loop-i.i = search rules in
-    record { inside = tt; found = vacant_all _ _ h c.loop-i.invariant }
+pub returns-clause-found : goal.returns-clause-found
+returns-clause-found c =
+    found_vacant c.args.slots.now _
+    (position_from_yields_List (λ s. not (is_some s)) _ _ _ c.position.ensures.ran
+    (YieldsList-from_slice c.args.slots.now cc) (λ x b q k. search (rules, tests)))

@@ -1,18 +1,9 @@
-use Rattle.book.proofs.Slots.{found_ready, free_ready}
+use Rattle.std.proofs.Common.{rules}
+use Rattle.book.proofs.Slots.{either_ready}
 use Rattle.book.proofs.table.slot_for.Goals as goal
 
-pub returns-in-Some : goal.returns-in-Some
-returns-in-Some c =
-    record {
-      inside = c.in-Some.ensures.inside;
-      ready = λ distinct ranged. found_ready c.args.slots.now _ _ distinct c.in-Some.ensures.found;
-    }
-
-pub returns-in-None : goal.returns-in-None
-returns-in-None c =
-    record {
-      inside = c.free_slot.ensures.inside;
-      ready = λ distinct ranged.
-          free_ready c.args.slots.now distinct ranged c.told-slots c.args.number c.free_slot.result
-          c.in-None.ensures.found c.free_slot.ensures.found;
-    }
+pub returns-clause-ready : goal.returns-clause-ready
+returns-clause-ready c = λ distinct ranged.
+    let h = c.or_else.ensures in
+    either_ready c.args.slots.now distinct ranged c.told-slots c.args.number c.slot_of.result _ c.slot_of.ensures.found
+    (λ e. let at = rw e at h in search rules) (λ i e. let at = rw e at h in search rules)

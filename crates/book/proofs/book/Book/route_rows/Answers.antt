@@ -1,63 +1,39 @@
-use Rattle.std.proofs.Common.{length, get_or, sym, refl, ap, ◌∙◌, arith, length-set}
-use Rattle.book.specs.Keeping.{stands, entries_of}
-use Rattle.book.specs.Ledgers.{entry_stage}
-use Rattle.book.proofs.Rows.{absent_some, nth_none, nth_inside, rows_more, rows_all}
+use Rattle.std.proofs.Common.{◌≡◌, ◌<◌, [], ◌∷◌, Some, None, length, length-append, get_or, is_some, option_map, sym, ap, ◌∙◌, below_more, arith, rules}
+use Rattle.path.specs.Given.{stage_in}
+use Rattle.book.specs.Books.{view_of}
+use Rattle.book.specs.Ledgers.{absent_at, entry_stage}
+use Rattle.book.proofs.Routes.{absent_here, absent_nowhere}
+use Rattle.book.proofs.Rows.{rows_more}
 use Rattle.book.proofs.book.Book.route_rows.Goals as goal
 
-pub returns-in_err-entry_at : goal.returns-in_err-entry_at
-returns-in_err-entry_at g c =
-    rw c.from_residual.ensures
-    (record { full = tt; routed = tt; rows = λ all. nth_none (entries_of c.args.self.now.route) (sym c.in_err-entry_at.ensures) })
+pub returns-in_err-ok_or-clause-refused : goal.returns-in_err-ok_or-clause-refused
+returns-in_err-ok_or-clause-refused g c =
+    let stage = entry_stage (view_of g.P.Platform c.args.self.now) in
+    let i = c.loop-position.position in
+    let same = c.deref-entry-items.ensures.0 in
+    let none : c.entry_row.result ≡ None = search rules in
+    let absent : stage (get_or c.deref-entry-items.result.now i 0) ≡ None = rw none at c.entry_row.ensures in
+    let here = absent_here stage c.args.self.now.route.items i (omega (arith, ap length same)) c.loop-position.invariant.2
+    (ap is_some (ap (λ xs. stage (get_or xs i 0)) (sym same) ∙ absent)) in
+    search rules
 
-pub returns-in_err-first : goal.returns-in_err-first
-returns-in_err-first g c =
-    let book = c.args.self.now in
-    let stage = entry_stage (g.P.Platform.meaning book.platform) (stands book.table book.route) in
-    let here = nth_inside (entries_of book.route) 0 c.in_ok-entry_at.field-0 c.in_ok-entry_at.ensures in
-    rw c.from_residual-in_err-first.ensures
-    (record {
-      full = tt;
-      routed = tt;
-      rows = λ all.
-          absurd (absent_some stage (entries_of book.route) 0 here.0 (ap stage here.1 ∙ c.in_err-first.ensures) all);
-    })
-
-pub loop-i-init : goal.loop-i-init
-loop-i-init g c = (refl, λ k h. absurd (omega arith))
-
-pub returns-in_err-rows : goal.returns-in_err-rows
-returns-in_err-rows g c =
-    let book = c.args.self.now in
-    let stage = entry_stage (g.P.Platform.meaning book.platform) (stands book.table book.route) in
-    let same = c.as_slice-entries.ensures.value in
-    rw c.from_residual-in_err-rows.ensures
-    (record {
-      full = tt;
-      routed = tt;
-      rows = λ all.
-          absurd
-          (absent_some stage (entries_of book.route) c.loop-i.i (omega (arith, ap length same))
-          (ap (λ xs. stage (get_or xs c.loop-i.i 0)) (sym same) ∙ c.in_err-rows.ensures) all);
-    })
-
-pub loop-i-preserved : goal.loop-i-preserved
-loop-i-preserved g c =
-    let book = c.args.self.now in
-    let stage = entry_stage (g.P.Platform.meaning book.platform) (stands book.table book.route) in (
-      length-set c.loop-i.rows c.loop-i.i c.in_ok-rows.field-0 ∙ c.loop-i.invariant.0,
-      rows_more stage c.as_slice-entries.result.now c.loop-i.rows c.loop-i.i c.in_ok-rows.field-0
-          (omega (arith, c.as_slice-entries.ensures.short, c.loop-i.invariant.0)) c.loop-i.invariant.1 c.in_ok-rows.ensures,
+pub loop-position-preserved : goal.loop-position-preserved
+loop-position-preserved g c =
+    let stage = entry_stage (view_of g.P.Platform c.args.self.now) in
+    let entries = c.args.self.now.route.items in
+    let i = c.loop-position.position in
+    let same = c.deref-entry-items.ensures.0 in
+    let inside : i < length entries = omega (arith, ap length same) in
+    let there : c.entry_row.result ≡ Some c.in_ok-ok_or.field-0 = search rules in
+    let here : stage (get_or c.deref-entry-items.result.now i 0) ≡ Some (stage_in c.in_ok-ok_or.field-0) = rw there at c.entry_row.ensures in
+    let here' = ap (λ xs. stage (get_or xs i 0)) (sym same) ∙ here in
+    rw c.push.ensures.items (
+      omega (arith, length-append c.loop-position.rows.items (c.in_ok-ok_or.field-0 ∷ [])),
+      rows_more stage entries c.loop-position.rows.items i c.in_ok-ok_or.field-0 inside c.loop-position.invariant.1 here',
+      below_more _ _ c.loop-position.invariant.2 (ap is_some here'),
     )
 
-pub returns : goal.returns
-returns g c =
-    let book = c.args.self.now in
-    let stage = entry_stage (g.P.Platform.meaning book.platform) (stands book.table book.route) in
-    let same = c.as_slice-entries.ensures.value in
-    record {
-      full = c.loop-i.invariant.0;
-      routed = (nth_inside (entries_of book.route) 0 c.in_ok-entry_at.field-0 c.in_ok-entry_at.ensures).0;
-      rows = rows_all stage (entries_of book.route) c.loop-i.rows
-          (omega (arith, ap length same, c.as_slice-entries.ensures.short, c.loop-i.invariant.0))
-          (λ k h. ap (λ xs. stage (get_or xs k 0)) (sym same) ∙ c.loop-i.invariant.1 k (omega (arith, ap length same)));
-    }
+pub returns-clause-refused : goal.returns-clause-refused
+returns-clause-refused g c =
+    let stage = entry_stage (view_of g.P.Platform c.args.self.now) in
+    sym (ap (option_map absent_at) (absent_nowhere stage c.args.self.now.route.items (λ k h. c.loop-position.invariant.2 k (omega (arith, ap length c.deref-entry-items.ensures.0)))))

@@ -1,4 +1,4 @@
-use Rattle.std.proofs.Common.{rules}
+use Rattle.std.proofs.Common.{is_ok, rules}
 use Rattle.book.proofs.Kept.{kept, put_keeps, number_low, record_in_range}
 use Rattle.book.proofs.book.edits.Book+P+Open.enter.Goals as goal
 
@@ -6,21 +6,15 @@ pub invariant_of-self : goal.invariant_of-self
 invariant_of-self g c =
     let book = c.args.self.now in
     let keeps = kept _ _ book.keeps in
-    let put = c.put.ensures keeps.distinct keeps.ranged in
+    let put = c.put.ensures.put keeps.distinct keeps.ranged in
     let low = number_low c.args.number c.in_ok-check_number.ensures in
     let range = record_in_range c.args.«record» (search rules) c.in_ok-check_record.ensures in record {
-      keeps = ∣ put_keeps book.table c.put.new.self book.route c.args.number c.args.«record» c.put.result keeps
+      keeps = ∣ put_keeps book.table c.put.new.self book.route c.args.number c.args.«record» (is_ok c.put.result) keeps
           put.distinct (put.ranged low range) put.held ∣₁;
     }
-
-pub returns-then-not-put : goal.returns-then-not-put
-returns-then-not-put g c =
-    let keeps = kept _ _ c.args.self.now.keeps in
-    let put = c.put.ensures keeps.distinct keeps.ranged in
-    search rules
 
 pub returns : goal.returns
 returns g c =
     let keeps = kept _ _ c.args.self.now.keeps in
-    let put = c.put.ensures keeps.distinct keeps.ranged in
+    let put = c.put.ensures.put keeps.distinct keeps.ranged in
     search rules
