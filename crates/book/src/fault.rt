@@ -8,7 +8,7 @@ use path::SearchFault;
 use thiserror::Error;
 
 // A refusal by number and place, whichever layer it comes from.
-pub trait Fault {
+pub trait Fault: Copy {
     ghost refusal: { Self → Refusal };
 
     // The refusal's number.
@@ -19,6 +19,9 @@ pub trait Fault {
     fn place(self) -> usize
         ensures { result ≡ (refusal self).place };
 }
+
+// Where a fault is that belongs to no entry.
+const NO_PLACE: usize = 0;
 
 // Faults of a task's number and record.
 #[derive(Clone, Copy, Debug, PartialEq, Eq, Error)]
@@ -56,7 +59,7 @@ impl Fault for TaskFault {
     }
 
     fn place(self) -> usize {
-        0
+        NO_PLACE
     }
 }
 
@@ -86,7 +89,7 @@ impl Fault for RouteFault {
     fn place(self) -> usize {
         match self {
             RouteFault::Task(fault) => fault.place(),
-            RouteFault::Length => 0,
+            RouteFault::Length => NO_PLACE,
             RouteFault::Absent(position) => position,
         }
     }
@@ -134,7 +137,7 @@ impl Fault for AnalysisFault {
             AnalysisFault::Semantics
             | AnalysisFault::NoRoute
             | AnalysisFault::MacroPeriod
-            | AnalysisFault::Buffer => 0,
+            | AnalysisFault::Buffer => NO_PLACE,
         }
     }
 }

@@ -1,6 +1,6 @@
 // The limits of tasks and routes, call by call.
-use crate::{Book, Open};
-use platform::{Metronome, Number, Record};
+use crate::{Book, Fault, Open};
+use platform::{Metronome, Record};
 
 fn record(period: u32, offset: u32, response: u32) -> Record {
     Record {
@@ -11,69 +11,49 @@ fn record(period: u32, offset: u32, response: u32) -> Record {
     }
 }
 
-// The number of the refusal of an enter, or 0.
-fn enter(book: &mut Book<Metronome<'_>, Open>, number: Number, record: Record) -> u8 {
-    match book.enter(number, record) {
-        Ok(()) => 0,
-        Err(fault) => fault.number(),
-    }
+// The number and place of a call's refusal; nothing where it is accepted.
+fn refusal<T: Drop, F: Fault>(answer: Result<T, F>) -> Option<(u8, usize)> {
+    answer.err().map(|fault| (fault.number(), fault.place()))
 }
 
-// The number of the refusal of a retire, or 0.
-fn retire(book: &mut Book<Metronome<'_>, Open>, number: Number) -> u8 {
-    match book.retire(number) {
-        Ok(()) => 0,
-        Err(fault) => fault.number(),
-    }
-}
-
-// The number and place of the refusal of a route, or zeros.
-fn route(book: &mut Book<Metronome<'_>, Open>, entries: &[Number]) -> (u8, usize) {
-    match book.route(entries) {
-        Ok(()) => (0, 0),
-        Err(fault) => (fault.number(), fault.place()),
-    }
-}
-
-// The number of the refusal of a query, or 0.
-fn query(book: &Book<Metronome<'_>, Open>, semantics: u8, room: usize) -> u8 {
+// What a query with room for so many instances is refused by.
+fn query(book: &Book<Metronome<'_>, Open>, semantics: u8, room: usize) -> Option<(u8, usize)> {
     let mut buffer = [0; 16];
-    let room = room.min(16);
-    match book.query(semantics, &mut buffer[0..room]) {
-        Ok(_) => 0,
-        Err(fault) => fault.number(),
-    }
+    refusal(book.query(semantics, &mut buffer[..room.min(16)]))
 }
 
 #[test]
 fn refusals_of_a_query(rt: HostRuntime) {
     let mut book = Book::new(Metronome::new(&[]));
-    assert_eq!(rt; query(&book, 4, 0), 10);
-    assert_eq!(rt; query(&book, 255, 16), 10);
-    assert_eq!(rt; query(&book, 0, 16), 11);
-    assert_eq!(rt; enter(&mut book, 1, record(1_000_000, 0, 1)), 0);
-    assert_eq!(rt; enter(&mut book, 2, record(999_999, 0, 1)), 0);
-    assert_eq!(rt; route(&mut book, &[1, 2]), (0, 0));
-    assert_eq!(rt; query(&book, 3, 0), 12);
-    assert_eq!(rt; route(&mut book, &[2, 2]), (0, 0));
-    assert_eq!(rt; query(&book, 3, 1), 13);
-    assert_eq!(rt; query(&book, 3, 2), 0);
+    assert_eq!(rt; query(&book, 4, 0), Some((10, 0)));
+    assert_eq!(rt; query(&book, 255, 16), Some((10, 0)));
+    assert_eq!(rt; query(&book, 0, 16), Some((11, 0)));
+    assert_eq!(rt; refusal(book.enter(1, record(1_000_000, 0, 1))), None);
+    assert_eq!(rt; refusal(book.enter(2, record(999_999, 0, 1))), None);
+    assert_eq!(rt; refusal(book.route(&[1, 2])), None);
+    assert_eq!(rt; query(&book, 3, 0), Some((12, 0)));
+    assert_eq!(rt; refusal(book.route(&[2, 2])), None);
+    assert_eq!(rt; query(&book, 3, 1), Some((13, 0)));
+    assert_eq!(rt; query(&book, 3, 2), None);
 }
 
 #[test]
 fn limits_of_a_record(rt: HostRuntime) {
     let mut book = Book::new(Metronome::new(&[]));
-    assert_eq!(rt; enter(&mut book, 0, record(100, 99, 100)), 0);
-    assert_eq!(rt; enter(&mut book, 127, record(1_000_000, 0, 1)), 0);
-    assert_eq!(rt; enter(&mut book, 128, record(100, 0, 1)), 1);
-    assert_eq!(rt; enter(&mut book, 0, record(99, 0, 1)), 2);
-    assert_eq!(rt; enter(&mut book, 0, record(1_000_001, 0, 1)), 2);
-    assert_eq!(rt; enter(&mut book, 0, record(100, 100, 1)), 3);
-    assert_eq!(rt; enter(&mut book, 0, record(100, 0, 0)), 4);
-    assert_eq!(rt; enter(&mut book, 0, record(100, 0, 101)), 4);
+    assert_eq!(rt; refusal(book.enter(0, record(100, 99, 100))), None);
+    assert_eq!(rt; refusal(book.enter(127, record(1_000_000, 0, 1))), None);
+    assert_eq!(rt; refusal(book.enter(128, record(100, 0, 1))), Some((1, 0)));
+    assert_eq!(rt; refusal(book.enter(0, record(99, 0, 1))), Some((2, 0)));
     assert_eq!(rt;
-        enter(&mut book, 0, record(u32::MAX, u32::MAX, u32::MAX)),
-        2
+        refusal(book.enter(0, record(1_000_001, 0, 1))),
+        Some((2, 0))
+    );
+    assert_eq!(rt; refusal(book.enter(0, record(100, 100, 1))), Some((3, 0)));
+    assert_eq!(rt; refusal(book.enter(0, record(100, 0, 0))), Some((4, 0)));
+    assert_eq!(rt; refusal(book.enter(0, record(100, 0, 101))), Some((4, 0)));
+    assert_eq!(rt;
+        refusal(book.enter(0, record(u32::MAX, u32::MAX, u32::MAX))),
+        Some((2, 0))
     );
 }
 
@@ -81,31 +61,31 @@ fn limits_of_a_record(rt: HostRuntime) {
 fn room_for_32_tasks(rt: HostRuntime) {
     let mut book = Book::new(Metronome::new(&[]));
     for number in 0..32u8 {
-        assert_eq!(rt; enter(&mut book, number, record(100, 0, 1)), 0);
+        assert_eq!(rt; refusal(book.enter(number, record(100, 0, 1))), None);
     }
-    assert_eq!(rt; enter(&mut book, 32, record(100, 0, 1)), 5);
-    assert_eq!(rt; enter(&mut book, 31, record(200, 0, 1)), 0);
-    assert_eq!(rt; retire(&mut book, 7), 0);
-    assert_eq!(rt; enter(&mut book, 32, record(100, 0, 1)), 0);
-    assert_eq!(rt; enter(&mut book, 7, record(100, 0, 1)), 5);
+    assert_eq!(rt; refusal(book.enter(32, record(100, 0, 1))), Some((5, 0)));
+    assert_eq!(rt; refusal(book.enter(31, record(200, 0, 1))), None);
+    assert_eq!(rt; refusal(book.retire(7)), None);
+    assert_eq!(rt; refusal(book.enter(32, record(100, 0, 1))), None);
+    assert_eq!(rt; refusal(book.enter(7, record(100, 0, 1))), Some((5, 0)));
 }
 
 #[test]
 fn refusals_of_a_route(rt: HostRuntime) {
     let stages = [record(20_000, 0, 5000), record(99, 0, 1)];
     let mut book = Book::new(Metronome::new(&stages));
-    assert_eq!(rt; enter(&mut book, 1, record(100, 0, 1)), 0);
-    assert_eq!(rt; route(&mut book, &[]), (8, 0));
-    assert_eq!(rt; route(&mut book, &[1; 17]), (8, 0));
-    assert_eq!(rt; route(&mut book, &[1; 1000]), (8, 0));
-    assert_eq!(rt; route(&mut book, &[1; 16]), (0, 0));
-    assert_eq!(rt; route(&mut book, &[2, 1, 1]), (9, 0));
-    assert_eq!(rt; route(&mut book, &[1, 128, 129]), (9, 2));
-    assert_eq!(rt; route(&mut book, &[1, 255, 129]), (9, 1));
+    assert_eq!(rt; refusal(book.enter(1, record(100, 0, 1))), None);
+    assert_eq!(rt; refusal(book.route(&[])), Some((8, 0)));
+    assert_eq!(rt; refusal(book.route(&[1; 17])), Some((8, 0)));
+    assert_eq!(rt; refusal(book.route(&[1; 1000])), Some((8, 0)));
+    assert_eq!(rt; refusal(book.route(&[1; 16])), None);
+    assert_eq!(rt; refusal(book.route(&[2, 1, 1])), Some((9, 0)));
+    assert_eq!(rt; refusal(book.route(&[1, 128, 129])), Some((9, 2)));
+    assert_eq!(rt; refusal(book.route(&[1, 255, 129])), Some((9, 1)));
     assert_eq!(rt; book.route_len(), 16);
-    assert_eq!(rt; retire(&mut book, 1), 7);
-    assert_eq!(rt; retire(&mut book, 2), 6);
-    assert_eq!(rt; retire(&mut book, 255), 1);
-    assert_eq!(rt; route(&mut book, &[128]), (0, 0));
-    assert_eq!(rt; retire(&mut book, 1), 0);
+    assert_eq!(rt; refusal(book.retire(1)), Some((7, 0)));
+    assert_eq!(rt; refusal(book.retire(2)), Some((6, 0)));
+    assert_eq!(rt; refusal(book.retire(255)), Some((1, 0)));
+    assert_eq!(rt; refusal(book.route(&[128])), None);
+    assert_eq!(rt; refusal(book.retire(1)), None);
 }
