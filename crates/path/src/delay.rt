@@ -3,29 +3,45 @@ ghost use Rattle.std.specs.Prelude.{◌≡◌, ℕ, ◌<◌, ◌≤◌, length, 
 ghost use Rattle.stage.specs.Periods.{IsMacroPeriod};
 ghost use Rattle.path.specs.Given.{stages_of};
 ghost use Rattle.path.specs.Figures.{Figure};
-ghost use Rattle.path.specs.Refusals.{Accepted, Refused, RightLength, cycles_of};
+ghost use Rattle.path.specs.Refusals.{Accepted, Refused, RightLength, cycles_of, fault_text};
 
 use crate::semantics::Semantics;
 use crate::{largest, route};
 use stage::LawfulRow;
+use std::error::Error;
+use std::fmt;
 
 // The most stages a route has.
 pub const MAX_LENGTH: usize = 16;
 
 // The largest delay in microseconds, and the predecessor from which it is counted under FL and FF.
-#[derive(Clone, Copy, PartialEq, Eq, Debug, Drop)]
+#[derive(Clone, Copy, PartialEq, Eq, Hash, Debug)]
 pub struct Delay {
     pub delay: u64,
     pub predecessor: Option<u64>,
 }
 
 // Why a search is refused: not 1 to 16 rows, no macro-period of at most 100,000,000, or too short a buffer.
-#[derive(Clone, Copy, PartialEq, Eq, Debug, Drop)]
+#[derive(Clone, Copy, PartialEq, Eq, Hash, Debug)]
 pub enum SearchFault {
     Length,
     MacroPeriod,
     Buffer,
 }
+
+impl fmt::Display for SearchFault {
+    ghost output = { λ fault. Some (fault_text fault) };
+
+    fn fmt<W: fmt::Write>(&self, f: &mut fmt::Formatter<W>) -> fmt::Result {
+        f.write_str(match self {
+            SearchFault::Length => "a route has 1 to 16 stages",
+            SearchFault::MacroPeriod => "the macro-period is above 100000000",
+            SearchFault::Buffer => "the buffer is shorter than the route",
+        })
+    }
+}
+
+impl Error for SearchFault {}
 
 // The cycles of the rows, each in its place.
 fn cycles_of(rows: &[LawfulRow]) -> [u32; MAX_LENGTH]

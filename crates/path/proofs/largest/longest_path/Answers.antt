@@ -1,4 +1,5 @@
-use Rattle.std.proofs.Common.{◌≡◌, ◌+◌, ◌^◌, ◌<◌, sym, ap, ◌∙◌, subst, arith, rules}
+use Rattle.std.proofs.Common.{◌≡◌, ◌+◌, ◌^◌, ◌<◌, refl, sym, ap, ◌∙◌, subst, arith, rules}
+use Rattle.std.proofs.lemmas.Bool.{false≢true}
 use Rattle.path.specs.declared.largest.Longest.{Longest}
 use Rattle.path.specs.Given.{stages_of}
 use Rattle.path.specs.Timed.{first_stage}
@@ -67,7 +68,7 @@ longest_in-found-requires c =
           c.loop-block.block c.loop-block.before c.loop-block.near c.loop-block.best.delay c.loop-block.best.origin
           c.loop-block.best.last c.ahead-far.result (0) c.loop-block.invariant.0 (omega (arith, c.loop-block.invariant.2))
           c.ahead-far.ensures
-          (subst (λ x. Counting c.args.semantics x c.loop-block.block) c.loop-block.invariant.1 (c.if-counts.ensures.sound tt));
+          (subst (λ x. Counting c.args.semantics x c.loop-block.block) c.loop-block.invariant.1 (c.if-counts.ensures.0 refl));
       early = end_early c.args.rows.now c.requires.some c.requires.few c.args.span c.requires.common c.requires.short c.args.semantics
           c.loop-block.block c.loop-block.before c.loop-block.near c.loop-block.best.delay c.loop-block.best.origin
           c.loop-block.best.last c.ahead-far.result (0) c.loop-block.invariant.0 (omega (arith, c.loop-block.invariant.2))
@@ -106,7 +107,7 @@ loop-block-preserved c = (
         c.loop-block.best.last c.ahead-far.result c.back-block.result c.loop-block.invariant.0 (omega (arith, c.loop-block.invariant.2))
         c.ahead-far.ensures c.back-block.ensures
         w.longest_in-found.result.delay w.longest_in-found.result.origin w.longest_in-found.result.last
-        (subst (λ x. Counting c.args.semantics x c.loop-block.block) c.loop-block.invariant.1 (w.if-counts.ensures.sound tt))
+        (subst (λ x. Counting c.args.semantics x c.loop-block.block) c.loop-block.invariant.1 (w.if-counts.ensures.0 refl))
         w.longest_in-found.ensures.delay w.longest_in-found.ensures.origin w.longest_in-found.ensures.last w.if-found-best.true)
     | then-counts+else-found-best w ↦
         subst (NextWith c) (sym w.best-is)
@@ -115,7 +116,7 @@ loop-block-preserved c = (
         c.loop-block.best.last c.ahead-far.result c.back-block.result c.loop-block.invariant.0 (omega (arith, c.loop-block.invariant.2))
         c.ahead-far.ensures c.back-block.ensures
         w.longest_in-found.result.delay
-        (subst (λ x. Counting c.args.semantics x c.loop-block.block) c.loop-block.invariant.1 (w.if-counts.ensures.sound tt))
+        (subst (λ x. Counting c.args.semantics x c.loop-block.block) c.loop-block.invariant.1 (w.if-counts.ensures.0 refl))
         w.longest_in-found.ensures.delay w.if-found-best.false)
     | else-counts w ↦
         subst (NextWith c) (sym w.best-is)
@@ -123,8 +124,8 @@ loop-block-preserved c = (
         c.loop-block.block c.loop-block.before c.loop-block.near c.loop-block.best.delay c.loop-block.best.origin
         c.loop-block.best.last c.ahead-far.result c.back-block.result c.loop-block.invariant.0 (omega (arith, c.loop-block.invariant.2))
         c.ahead-far.ensures c.back-block.ensures
-        (λ k. w.if-counts.ensures.complete
-        (subst (λ x. Counting c.args.semantics x c.loop-block.block) (sym c.loop-block.invariant.1) k)))
+        (λ k. false≢true (w.if-counts.ensures.1
+        (subst (λ x. Counting c.args.semantics x c.loop-block.block) (sym c.loop-block.invariant.1) k))))
   ],
   c.loop-block.invariant.1,
   c.loop-block.invariant.2,
