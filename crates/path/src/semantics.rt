@@ -1,8 +1,8 @@
 // The four ways to count the delays of timed paths.
-ghost use Rattle.std.specs.Prelude.{◌≡◌, ◌<◌, ◌↔◌, IsTrue, Some, codes};
+ghost use Rattle.std.specs.Prelude.{◌≡◌, ◌<◌, Some, codes};
 ghost use Rattle.path.specs.Figures.{shown_predecessor};
 ghost use Rattle.path.specs.Numbering.{Names, Numbers, semantics_name, semantics_number};
-ghost use Rattle.path.specs.Steps.{Counting, end_in, from_of};
+ghost use Rattle.path.specs.Steps.{end_in, origin_in};
 
 use std::error::Error;
 use std::fmt;
@@ -91,22 +91,13 @@ impl fmt::Display for UnknownSemantics {
 impl Error for UnknownSemantics {}
 
 impl Semantics {
-    // Whether paths of block `block` count, where `first` is the first block.
-    pub(crate) fn counts(self, first: u64, block: u64) -> bool
-        ensures { IsTrue result ↔ Counting self first block }
+    // The instance from which delays are counted in the block that begins at `begin`, after the one at `before`. There
+    // is none where its paths do not count: a first block has no predecessor.
+    pub(crate) fn origin(self, begin: u64, before: Option<u64>) -> Option<u64>
+        ensures { result ≡ origin_in self begin before }
     {
         match self {
-            Semantics::LL | Semantics::LF => true,
-            Semantics::FL | Semantics::FF => first < block,
-        }
-    }
-
-    // The instance from which delays in block `block` are counted, where `before` is the block before it.
-    pub(crate) fn origin(self, block: u64, before: u64) -> u64
-        ensures { result ≡ from_of self block before }
-    {
-        match self {
-            Semantics::LL | Semantics::LF => block,
+            Semantics::LL | Semantics::LF => Some(begin),
             Semantics::FL | Semantics::FF => before,
         }
     }
