@@ -10,10 +10,10 @@ use Rattle.path.specs.declared.semantics.Semantics.TheVariants.{LL, LF, FL, FF}
 use Rattle.path.specs.Timed.{first_stage, last_stage}
 use Rattle.path.specs.Figures.{shown_predecessor, Figure}
 use Rattle.path.specs.Periods.{Common, instances_in}
-use Rattle.path.specs.Steps.{Counting, from_of, Hop, hop_along, hops_of, trace_back, route_of, first_block, next_block}
+use Rattle.path.specs.Steps.{Hop, hop_along, hops_of, trace_back, route_of, first_block, next_block}
 use Rattle.path.proofs.Best.{longest}
 use Rattle.path.proofs.Next.{quick_hops, quick_hops_are}
-use Rattle.path.proofs.Search.{Visit, visit_start, visit_more, visit_same, visit_skip, visit_finish}
+use Rattle.path.proofs.Search.{Counting, from_of, Visit, visit_start, visit_more, visit_same, visit_skip, visit_finish}
 
 -- whether block f has paths that count
 abbrev counting : Semantics → ℕ → ℕ → Bool

@@ -19,5 +19,6 @@ pub mod Samples
 mod Given
 mod Stepping
 mod Walking
+mod Writing
 mod Searching
 mod Cycles

@@ -11,7 +11,7 @@ use Rattle.path.specs.declared.semantics.Semantics.TheVariants.{LL, LF, FL, FF}
 use Rattle.path.specs.Timed.{first_stage, last_stage}
 use Rattle.path.specs.Figures.{shown_predecessor, Figure}
 use Rattle.path.specs.Periods.{Common, instances_in}
-use Rattle.path.specs.Steps.{Counting, from_of, ahead_of, back_of, Hop, route_of, witness_to, first_block, next_block}
+use Rattle.path.specs.Steps.{ahead_of, back_of, Hop, route_of, witness_to, first_block, next_block}
 use Rattle.path.proofs.Hops.{Tied}
 use Rattle.path.proofs.Blocks.{Opens, Before, first_opens, first_alone, next_later, next_opens, next_before, next_same, first_same, top_positive}
 use Rattle.path.proofs.Best.{From, longest, Clock, BestSoFar, best_none, best_skip, best_more, best_same, longest_takes, longest_low, from_low, takes_time}
@@ -19,6 +19,20 @@ use Rattle.path.proofs.Period.{best_all}
 use Rattle.path.proofs.Shift.{route_clock, route_repeats}
 use Rattle.path.proofs.Figures.{route_tied, best_finish, takes_joins}
 use Rattle.path.proofs.Sizes.{InSpans, in_spans, Short, all_short, ahead_soon_span, back_earlier}
+
+-- which blocks have paths that count: where a predecessor is asked for, those after the first
+abbrev pub Counting : Semantics → ℕ → ℕ → Type 0
+Counting LL first f = Unit {0}
+Counting LF first f = Unit {0}
+Counting FL first f = first < f
+Counting FF first f = first < f
+
+-- the instance from which delays in block f are counted, where p is the block before it
+abbrev pub from_of : Semantics → ℕ → ℕ → ℕ
+from_of LL f p = f
+from_of LF f p = f
+from_of FL f p = p
+from_of FF f p = p
 
 abbrev pub delay_in : Semantics → List Stage → ℕ → ℕ → ℕ
 delay_in m ss f p = stop_of (last_stage ss) (longest m (route_of ss) f) - start_of (first_stage ss) (from_of m f p)
@@ -139,6 +153,19 @@ visit_written m (s ∷ ss) some ls span c f p d o l v far =
     (instances_in span (last_stage (s ∷ ss))) span (route_repeats s ss ls.0 ls.1 span c) m
     (route_clock s ss ls.0 ls.1) f d o l v.best far in
     omega (arith, takes_joins s ss ls.0 ls.1 m b.first l o b.takes)
+
+-- and something has been found
+pub visit_positive : (m : Semantics) (ss : List Stage) → 0 < length ss → AllByRecursion Lawful ss → (span : ℕ) → Common span ss → (f p d o l : ℕ) → Visit m ss f p d o l → first_block (route_of ss) + instances_in span (first_stage ss) < f → 0 < d
+visit_positive m [] some ls span c f p d o l v far = absurd (omega arith)
+visit_positive m (s ∷ ss) some ls span c f p d o l v far =
+    let b = best_all (route_of (s ∷ ss)) (route_tied s ss ls.0 ls.1) (begin_of (s ∷ ss)) (finish_of (s ∷ ss)) (instances_in span s)
+    (instances_in span (last_stage (s ∷ ss))) span (route_repeats s ss ls.0 ls.1 span c) m
+    (route_clock s ss ls.0 ls.1) f d o l v.best far in
+    omega (
+      arith,
+      b.lasts,
+      takes_time m (route_of (s ∷ ss)) (route_tied s ss ls.0 ls.1) (begin_of (s ∷ ss)) (finish_of (s ∷ ss)) (route_clock s ss ls.0 ls.1) b.first l o b.takes,
+    )
 
 -- The times of a block that is visited.
 pub visit_in_spans : (ss : List Stage) → 0 < length ss → length ss ≤ 16 → AllByRecursion Lawful ss → (span : ℕ) → Common span ss → (f : ℕ) → f ≤ first_block (route_of ss) + instances_in span (first_stage ss) → InSpans ss span f

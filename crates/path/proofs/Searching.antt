@@ -1,26 +1,33 @@
--- The search over rows in memory, turn by turn as the code takes it.
+-- The search along a route in memory, turn by turn as the code takes it.
 -- Assumes nothing.
-use Rattle.std.proofs.Common.{◌≡◌, ℕ, ◌+◌, ◌-◌, ◌*◌, ◌/◌, ◌^◌, ◌<◌, ◌≤◌, List, [], ◌∷◌, length, get_or, sym, ap, ◌∙◌, subst, ⊎_elim, arith}
+use Rattle.std.proofs.Common.{◌≡◌, ℕ, ◌+◌, ◌-◌, ◌*◌, ◌/◌, ◌^◌, ◌<◌, ◌≤◌, List, [], ◌∷◌, length, Option, Some, None, IfSome, IsSome, IsTrue, MatchOption, unwrap_or, true, false, refl, sym, ap, ◌∙◌, subst, arith}
 use Rattle.std.specs.List.{AllByRecursion}
-use Rattle.std.proofs.lemmas.Bool.{cases_lt}
+use Rattle.std.proofs.lemmas.Bool.{false≢true}
 use Rattle.stage.specs.Stages.{Stage, Lawful, start_of, stop_of}
 use Rattle.stage.specs.declared.lawful.LawfulRow.{LawfulRow}
 use Rattle.stage.specs.declared.row.Row.{Row}
 use Rattle.stage.proofs.Marks.{count_is}
 use Rattle.stage.proofs.Order.{in_order}
+use Rattle.path.specs.declared.largest.Block.{Block}
+use Rattle.path.specs.declared.largest.Longest.{Longest}
+use Rattle.path.specs.declared.route.Route.{Route}
 use Rattle.path.specs.declared.semantics.Semantics.{Semantics}
-use Rattle.path.specs.Given.{stage_in, stages_of}
+use Rattle.path.specs.declared.semantics.Semantics.TheVariants.{LL, LF, FL, FF}
+use Rattle.path.specs.Given.{stage_in}
+use Rattle.path.specs.Block.{EndsLast}
+use Rattle.path.specs.Route.{stages_along}
 use Rattle.path.specs.Timed.{first_stage, last_stage}
 use Rattle.path.specs.Figures.{shown_predecessor, Figure}
 use Rattle.path.specs.Periods.{Common, instances_in}
-use Rattle.path.specs.Steps.{Counting, from_of, end_in, route_of, witness_to, first_block, next_block}
-use Rattle.path.proofs.Best.{longest, longest_low}
+use Rattle.path.specs.Steps.{origin_in, end_in, route_of, witness_to, first_block, next_block}
+use Rattle.path.proofs.Best.{longest}
+use Rattle.path.proofs.Blocks.{top, top_same, top_opens}
 use Rattle.path.proofs.Given.{all_laws, stages_length}
 use Rattle.path.proofs.Ready.{stops_rise}
-use Rattle.path.proofs.Search.{delay_in, Visit, visit_start, visit_more, visit_same, visit_skip, visit_in_time, visit_in_spans, visit_finish, visit_written, back_there, first_ahead, next_ahead, next_after, instances_in_is, number_small}
-use Rattle.path.proofs.Shift.{start_within, last_holds}
+use Rattle.path.proofs.Search.{tied, Counting, from_of, delay_in, Visit, visit_start, visit_more, visit_same, visit_skip, visit_in_time, visit_in_spans, visit_finish, visit_written, visit_positive, back_there, next_after, instances_in_is, number_small}
+use Rattle.path.proofs.Shift.{cycle_in_span, start_within, last_holds}
 use Rattle.path.proofs.Sizes.{InSpans}
-use Rattle.path.proofs.Walking.{first_read, last_read}
+use Rattle.path.proofs.Stepping.{stop_soon}
 
 pub count_instances : (x : LawfulRow) (r : Row) (span : ℕ) → r ≡ x.row → span / r.cycle * r.count ≡ instances_in span (stage_in x)
 count_instances x r span e =
@@ -28,181 +35,303 @@ count_instances x r span e =
     ∙ ap (λ k. span / x.row.cycle * k) (sym (count_is x.row))
     ∙ sym (instances_in_is span (stage_in x))
 
--- the times of the first row and the last row are those of the first stage and the last stage
-pub begin_read : (rows : List LawfulRow) (a : LawfulRow) (o f : ℕ) → 0 < length rows → a ≡ get_or rows 0 a → o ≡ f
-    → start_of (stage_in a) o ≡ start_of (first_stage (stages_of rows)) f
-begin_read rows a o f some e same =
-    ap (start_of (stage_in a)) same ∙ ap (λ s. start_of s f) (sym (first_read rows a some e))
-
-pub finish_read : (rows : List LawfulRow) (b : LawfulRow) (l j : ℕ) → 0 < length rows → b ≡ get_or rows (length rows - 1) b → l ≡ j
-    → stop_of (stage_in b) l ≡ stop_of (last_stage (stages_of rows)) j
-finish_read rows b l j some e same =
-    ap (stop_of (stage_in b)) same ∙ ap (λ s. stop_of s j) (sym (last_read rows b some e))
-
 first_lawful : (ss : List Stage) → 0 < length ss → AllByRecursion Lawful ss → Lawful (first_stage ss)
 first_lawful [] h ls = absurd (omega arith)
 first_lawful (s ∷ ss) h ls = ls.0
+
+first_common : (ss : List Stage) (span : ℕ) → 0 < length ss → AllByRecursion Lawful ss → Common span ss → (first_stage ss).cycle ≤ span
+first_common [] span h ls c = absurd (omega arith)
+first_common (s ∷ ss) span h ls c = cycle_in_span s ls.0 span c.whole.0 c.positive
 
 last_lawful : (ss : List Stage) → 0 < length ss → AllByRecursion Lawful ss → Lawful (last_stage ss)
 last_lawful [] h ls = absurd (omega arith)
 last_lawful (s ∷ ss) h ls = last_holds Lawful s ss ls.0 ls.1
 
--- The search has come to block f after block p, whose first end is `near`.
-pub record Reached (m : Semantics) (rows : List LawfulRow) (f p near d o l : ℕ) : Type 0 where
-  pub visit : Visit m (stages_of rows) f p d o l
-  pub near_is : near ≡ (route_of (stages_of rows)).ahead f
-  pub near_early : start_of (last_stage (stages_of rows)) near < 2 ^ 40
+end_low : (m : Semantics) (near far : ℕ) → near < far → end_in m near far < far
+end_low LL near far h = omega arith
+end_low LF near far h = h
+end_low FL near far h = omega arith
+end_low FF near far h = h
+
+-- What the search has found so far, where 0 stands for nothing.
+abbrev pub delay_of : Option Longest → ℕ
+delay_of None = 0
+delay_of (Some b) = b.delay
+
+abbrev pub origin_of : Option Longest → ℕ
+origin_of None = 0
+origin_of (Some b) = b.origin
+
+abbrev pub last_of : Option Longest → ℕ
+last_of None = 0
+last_of (Some b) = b.last
 
 -- the block up to which the search goes
-abbrev pub last_block : List LawfulRow → ℕ → ℕ
-last_block rows span = first_block (route_of (stages_of rows)) + instances_in span (first_stage (stages_of rows))
+abbrev pub last_block : Route → ℕ → ℕ
+last_block route span = first_block (route_of (stages_along route)) + instances_in span (first_stage (stages_along route))
 
-module _ (rows : List LawfulRow) (some : 0 < length rows) where
-  stages_some : 0 < length (stages_of rows)
-  stages_some = omega (arith, stages_length rows)
+pub record Begun (route : Route) (i near begin : ℕ) : Type 0 where
+  pub is_top : begin ≡ top (route_of (stages_along route)) i
+  pub near_is : near ≡ (route_of (stages_along route)).ahead begin
+  pub opens : near < (route_of (stages_along route)).ahead (begin + 1)
 
-  pub zero_early : start_of (first_stage (stages_of rows)) 0 < 2 ^ 36
+module _ (route : Route) where
+  pub some : 0 < length (stages_along route)
+  some = omega (arith, stages_length route.rows.now, route.some)
+
+  few : length (stages_along route) ≤ 16
+  few = omega (arith, stages_length route.rows.now, route.few)
+
+  pub laws : AllByRecursion Lawful (stages_along route)
+  laws = all_laws route.rows.now
+
+  pub zero_early : start_of (first_stage (stages_along route)) 0 < 2 ^ 36
   zero_early =
-      let l = first_lawful (stages_of rows) stages_some (all_laws rows) in
-      omega (arith, start_within (first_stage (stages_of rows)) l 1 0 (omega (arith, l.count_low)), l.cycle_high)
+      let l = first_lawful (stages_along route) some laws in
+      omega (arith, start_within (first_stage (stages_along route)) l 1 0 (omega (arith, l.count_low)), l.cycle_high)
 
   -- there is a step back from each step ahead
-  pub back_some : (i near : ℕ) → near ≡ (route_of (stages_of rows)).ahead i → 0 < (route_of (stages_of rows)).back (near + 1)
-  back_some i near e =
-      subst (λ x. 0 < (route_of (stages_of rows)).back (x + 1)) (sym e) (omega (arith, back_there (stages_of rows) stages_some (all_laws rows) i))
+  pub back_some : (i far : ℕ) → far ≡ (route_of (stages_along route)).ahead i → 0 < (route_of (stages_along route)).back (far + 1)
+  back_some i far e =
+      subst (λ x. 0 < (route_of (stages_along route)).back (x + 1)) (sym e) (omega (arith, back_there (stages_along route) some laws i))
 
-  pub first_is : (near first : ℕ) → near ≡ (route_of (stages_of rows)).ahead 0 → first + 1 ≡ (route_of (stages_of rows)).back (near + 1)
-      → first ≡ first_block (route_of (stages_of rows))
-  first_is near first e b = omega (arith, ap (λ x. (route_of (stages_of rows)).back (x + 1)) e)
+  -- A block that is found by steps from instance i: ahead to `near`, where its paths end first, and back to where they begin.
+  pub begun : (i near begin : ℕ) → near ≡ (route_of (stages_along route)).ahead i → begin + 1 ≡ (route_of (stages_along route)).back (near + 1)
+      → Begun route i near begin
+  begun i near begin e b =
+      let h = route_of (stages_along route) in
+      let t = tied (stages_along route) some laws in
+      let is : begin ≡ top (route_of (stages_along route)) i = omega (arith, ap (λ x. (route_of (stages_along route)).back (x + 1)) e) in
+      let near_is = e ∙ sym (top_same h t i) ∙ ap (route_of (stages_along route)).ahead (sym is) in
+      record {
+        is_top = is;
+        near_is = near_is;
+        opens = subst (λ x. near < (route_of (stages_along route)).ahead (x + 1)) (sym is) (omega (arith, top_opens h t i, e, top_same h t i));
+      }
 
-  pub next_is : (f far next : ℕ) → far ≡ (route_of (stages_of rows)).ahead (f + 1) → next + 1 ≡ (route_of (stages_of rows)).back (far + 1)
-      → next ≡ next_block (route_of (stages_of rows)) f
-  next_is f far next e b = omega (arith, ap (λ x. (route_of (stages_of rows)).back (x + 1)) e)
+  -- an instance that starts early has a small number
+  pub small : (i : ℕ) → start_of (first_stage (stages_along route)) i < 2 ^ 36 → i < 2 ^ 36
+  small i early = omega (arith, (in_order (first_stage (stages_along route)) (first_lawful (stages_along route) some laws)).number_below_start i)
 
-  pub next_rises : (f far next : ℕ) → far ≡ (route_of (stages_of rows)).ahead (f + 1) → next + 1 ≡ (route_of (stages_of rows)).back (far + 1) → f < next
-  next_rises f far next e b = omega (arith, next_is f far next e b, next_after (stages_of rows) stages_some (all_laws rows) f)
+  module _ (span : ℕ) (c : Common span (stages_along route)) (short : span ≤ 100_000_000) where
+    in_spans : (f : ℕ) → f ≤ last_block route span → InSpans (stages_along route) span f
+    in_spans f h = visit_in_spans (stages_along route) some few laws span c f h
 
-module _ (rows : List LawfulRow) (some : 0 < length rows) (few : length rows ≤ 16) (span : ℕ) (c : Common span (stages_of rows)) (short : span ≤ 100_000_000) where
-  in_spans : (f : ℕ) → f ≤ last_block rows span → InSpans (stages_of rows) span f
-  in_spans f h =
-      visit_in_spans (stages_of rows) (stages_some rows some) (omega (arith, stages_length rows)) (all_laws rows) span c f h
+    pub last_block_small : last_block route span < 2 ^ 40
+    last_block_small =
+        omega (
+          arith,
+          number_small (first_stage (stages_along route)) (first_lawful (stages_along route) some laws) (last_block route span)
+              (32 * span) (in_spans (last_block route span) (omega arith)).start,
+        )
 
-  pub first_early : (near : ℕ) → near ≡ (route_of (stages_of rows)).ahead 0 → start_of (last_stage (stages_of rows)) near < 2 ^ 40
-  first_early near e =
-      let s = in_spans (first_block (route_of (stages_of rows))) (omega arith) in
+    -- the block after f begins early, and so does the instance after that
+    pub next_early : (f : ℕ) → f ≤ last_block route span
+        → start_of (first_stage (stages_along route)) (next_block (route_of (stages_along route)) f + 1) < 2 ^ 36
+    next_early f h =
+        let l = first_lawful (stages_along route) some laws in
+        omega (
+          arith,
+          (in_spans f h).next,
+          (in_order (first_stage (stages_along route)) l).next_within_cycle (next_block (route_of (stages_along route)) f),
+          first_common (stages_along route) span some laws c,
+        )
+
+    pub first_on_time : start_of (first_stage (stages_along route)) (first_block (route_of (stages_along route)) + 1) < 2 ^ 36
+    first_on_time = omega (arith, (in_spans (first_block (route_of (stages_along route))) (omega arith)).start_after)
+
+-- The end that takes longest in a block is before the block's far end, so its time fits.
+pub stop_early : (m : Semantics) (b : Block) → stop_of (last_stage (stages_along b.route)) (end_in m b.near b.far) < 2 ^ 41
+stop_early m b =
+    let s = last_stage (stages_along b.route) in
+    let l = last_lawful (stages_along b.route) (some b.route) (laws b.route) in
+    omega (arith, stops_rise s l (end_in m b.near b.far) b.far (end_low m b.near b.far b.opens), stop_soon s l b.far, b.early)
+
+if_some : (o : Option ℕ) (P : ℕ → Type 0) → ((x : ℕ) → o ≡ Some x → P x) → IfSome o P
+if_some None P h = tt
+if_some (Some x) P h = h x refl
+
+-- whether paths of block f count, and from where, by the block before it
+origin_some : (m : Semantics) (first f : ℕ) (p : Option ℕ) (o : ℕ) → MatchOption p (f ≡ first) (λ q. first < f) → origin_in m f p ≡ Some o
+    → Counting m first f × (from_of m f (unwrap_or p 0) ≡ o)
+origin_some LL first f p o k e = (tt, cc)
+origin_some LF first f p o k e = (tt, cc)
+origin_some FL first f None o k e = cc
+origin_some FL first f (Some q) o k e = (k, cc)
+origin_some FF first f None o k e = cc
+origin_some FF first f (Some q) o k e = (k, cc)
+
+origin_none : (m : Semantics) (first f : ℕ) (p : Option ℕ) → MatchOption p (f ≡ first) (λ q. first < f) → origin_in m f p ≡ None → ¬ Counting m first f
+origin_none LL first f p k e c = cc
+origin_none LF first f p k e c = cc
+origin_none FL first f None k e c = omega arith
+origin_none FL first f (Some q) k e c = cc
+origin_none FF first f None k e c = omega arith
+origin_none FF first f (Some q) k e c = cc
+
+-- The search has come to a block with the best of those before it.
+pub record Reached (m : Semantics) (route : Route) (span end : ℕ) (block : Block) (best : Option Longest) : Type 0 where
+  pub along : block.route ≡ route
+  pub common : Common span (stages_along block.route)
+  pub end_is : end ≡ last_block block.route span
+  pub before : MatchOption block.before (block.begin ≡ first_block (route_of (stages_along block.route)))
+      (λ q. first_block (route_of (stages_along block.route)) < block.begin)
+  pub visit : Visit m (stages_along block.route) block.begin (unwrap_or block.before 0) (delay_of best) (origin_of best) (last_of best)
+
+pub reached_start : (m : Semantics) (route : Route) (span end : ℕ) (block : Block) → Common span (stages_along route) → block.route ≡ route
+    → block.begin ≡ first_block (route_of (stages_along route)) → block.before ≡ None → end ≡ last_block route span
+    → Reached m route span end block None
+reached_start m route span end block c along begin before end_is =
+    let begins : block.begin ≡ first_block (route_of (stages_along block.route)) = begin ∙ ap (λ r. first_block (route_of (stages_along r))) (sym along) in
+    record {
+      along = along;
+      common = subst (λ r. Common span (stages_along r)) (sym along) c;
+      end_is = end_is ∙ ap (λ r. last_block r span) (sym along);
+      before = subst (λ p. MatchOption p (block.begin ≡ first_block (route_of (stages_along block.route)))
+          (λ q. first_block (route_of (stages_along block.route)) < block.begin)) (sym before) begins;
+      visit = subst (λ x. Visit m (stages_along block.route) x (unwrap_or block.before 0) 0 0 0) (sym begins)
+          (visit_start m (stages_along block.route) (some block.route) (laws block.route) (unwrap_or block.before 0));
+    }
+
+-- The turn at a block.
+module _ (m : Semantics) (route : Route) (span end : ℕ) (block : Block) (best : Option Longest) (v : Reached m route span end block best) where
+  end_is_longest : end_in m block.near block.far ≡ longest m (route_of (stages_along block.route)) block.begin
+  end_is_longest =
+      ap (λ x. end_in m x block.far) block.near_is
+      ∙ ap (λ x. end_in m ((route_of (stages_along block.route)).ahead block.begin) x) block.far_is
+
+  pub taking : IfSome (origin_in m block.begin block.before)
+      (λ o. start_of (first_stage (stages_along block.route)) o ≤ stop_of (last_stage (stages_along block.route)) (end_in m block.near block.far))
+  taking =
+      if_some (origin_in m block.begin block.before)
+      (λ o. start_of (first_stage (stages_along block.route)) o ≤ stop_of (last_stage (stages_along block.route)) (end_in m block.near block.far))
+      (λ o e. let k = origin_some m (first_block (route_of (stages_along block.route))) block.begin block.before o v.before e in
       omega (
         arith,
-        s.ahead,
-        ap (start_of (last_stage (stages_of rows))) (e ∙ sym (first_ahead (stages_of rows) (stages_some rows some) (all_laws rows))),
-      )
+        ap (stop_of (last_stage (stages_along block.route))) end_is_longest,
+        ap (start_of (first_stage (stages_along block.route))) k.1,
+        visit_in_time m (stages_along block.route) (some block.route) (laws block.route) block.begin (unwrap_or block.before 0)
+            (delay_of best) (origin_of best) (last_of best) v.visit k.0,
+      ))
 
-  pub last_block_small : last_block rows span < 2 ^ 40
-  last_block_small =
-      let s = in_spans (last_block rows span) (omega arith) in
-      omega (
-        arith,
-        number_small (first_stage (stages_of rows)) (first_lawful (stages_of rows) (stages_some rows some) (all_laws rows))
-            (last_block rows span) (32 * span) s.start,
-      )
+  -- the longest path of the block, if any counts
+  module _ (found : Longest) (e : EndsLast m block found) where
+    counts : Counting m (first_block (route_of (stages_along block.route))) block.begin × (from_of m block.begin (unwrap_or block.before 0) ≡ found.origin)
+    counts = origin_some m (first_block (route_of (stages_along block.route))) block.begin block.before found.origin v.before e.origin
 
-  pub after_early : (f : ℕ) → f ≤ last_block rows span → start_of (first_stage (stages_of rows)) (f + 1) < 2 ^ 36
-  after_early f h = omega (arith, (in_spans f h).start_after)
+    delay_is : found.delay ≡ delay_in m (stages_along block.route) block.begin (unwrap_or block.before 0)
+    delay_is =
+        e.delay
+        ∙ ap (λ x. stop_of (last_stage (stages_along block.route)) x - start_of (first_stage (stages_along block.route)) found.origin) (e.last ∙ end_is_longest)
+        ∙ ap (λ x. stop_of (last_stage (stages_along block.route)) (longest m (route_of (stages_along block.route)) block.begin) - start_of (first_stage (stages_along block.route)) x) (sym counts.1)
 
-  pub far_early : (f far : ℕ) → f ≤ last_block rows span → far ≡ (route_of (stages_of rows)).ahead (f + 1)
-      → start_of (last_stage (stages_of rows)) far < 2 ^ 40
-  far_early f far h e = omega (arith, (in_spans f h).ahead_after, ap (start_of (last_stage (stages_of rows))) e)
+    pub found_positive : 0 < found.delay
+    found_positive =
+        omega (
+          arith,
+          delay_is,
+          visit_in_time m (stages_along block.route) (some block.route) (laws block.route) block.begin (unwrap_or block.before 0)
+              (delay_of best) (origin_of best) (last_of best) v.visit counts.0,
+        )
 
-  module _ (m : Semantics) where
-    pub reached_start : (near first : ℕ) → near ≡ (route_of (stages_of rows)).ahead 0 → first + 1 ≡ (route_of (stages_of rows)).back (near + 1)
-        → Reached m rows first first near 0 0 0
-    reached_start near first e b =
-        let z = first_is rows some near first e b in
-        record {
-          visit = subst (λ f. Visit m (stages_of rows) f first 0 0 0) (sym z)
-              (visit_start m (stages_of rows) (stages_some rows some) (all_laws rows) first);
-          near_is = e ∙ sym (first_ahead (stages_of rows) (stages_some rows some) (all_laws rows)) ∙ ap (route_of (stages_of rows)).ahead (sym z);
-          near_early = first_early near e;
-        }
+    pub visit_found : delay_of best < found.delay
+        → Visit m (stages_along block.route) (next_block (route_of (stages_along block.route)) block.begin) block.begin found.delay found.origin found.last
+    visit_found up =
+        let ss = stages_along block.route in
+        let next : ℕ = next_block (route_of (stages_along block.route)) block.begin in
+        subst (λ x. Visit m ss next block.begin x found.origin found.last) (sym delay_is)
+        (subst (λ x. Visit m ss next block.begin (delay_in m ss block.begin (unwrap_or block.before 0)) x found.last) counts.1
+        (subst (λ x. Visit m ss next block.begin (delay_in m ss block.begin (unwrap_or block.before 0)) (from_of m block.begin (unwrap_or block.before 0)) x)
+        (sym (e.last ∙ end_is_longest))
+        (visit_more m ss (some block.route) (laws block.route) block.begin (unwrap_or block.before 0)
+        (delay_of best) (origin_of best) (last_of best) v.visit counts.0 (omega (arith, delay_is)))))
 
-    -- The turn at block f: its last end is before `far`, and `next` is the next block.
-    module _ (f p near d o l far next : ℕ) (v : Reached m rows f p near d o l) (h : f ≤ last_block rows span)
-        (far_is : far ≡ (route_of (stages_of rows)).ahead (f + 1)) where
-      pub opens : near < far
-      opens = omega (arith, v.visit.opens, v.near_is)
+    pub visit_kept : found.delay ≤ delay_of best
+        → Visit m (stages_along block.route) (next_block (route_of (stages_along block.route)) block.begin) block.begin (delay_of best) (origin_of best) (last_of best)
+    visit_kept down =
+        visit_same m (stages_along block.route) (some block.route) (laws block.route) block.begin (unwrap_or block.before 0)
+        (delay_of best) (origin_of best) (last_of best) v.visit counts.0 (omega (arith, delay_is))
 
-      end_is_longest : end_in m near far ≡ longest m (route_of (stages_of rows)) f
-      end_is_longest =
-          ap (λ x. end_in m x far) v.near_is ∙ ap (λ x. end_in m ((route_of (stages_of rows)).ahead f) x) far_is
+  pub visit_none : origin_in m block.begin block.before ≡ None
+      → Visit m (stages_along block.route) (next_block (route_of (stages_along block.route)) block.begin) block.begin (delay_of best) (origin_of best) (last_of best)
+  visit_none e =
+      visit_skip m (stages_along block.route) (some block.route) (laws block.route) block.begin (unwrap_or block.before 0)
+      (delay_of best) (origin_of best) (last_of best) v.visit
+      (origin_none m (first_block (route_of (stages_along block.route))) block.begin block.before v.before e)
 
-      pub end_early : stop_of (last_stage (stages_of rows)) (end_in m near far) < 2 ^ 40
-      end_early =
-          let ll = last_lawful (stages_of rows) (stages_some rows some) (all_laws rows) in
-          omega (
-            arith,
-            ap (stop_of (last_stage (stages_of rows))) end_is_longest,
-            stops_rise (last_stage (stages_of rows)) ll (longest m (route_of (stages_of rows)) f) ((route_of (stages_of rows)).ahead (f + 1))
-                (longest_low m (route_of (stages_of rows)) f v.visit.opens),
-            (in_spans f h).stop_after,
-          )
+  -- and on to the next block, with the best that is then known
+  pub reached_next : (next : Block) (best' : Option Longest) → next.route ≡ block.route
+      → next.begin ≡ next_block (route_of (stages_along block.route)) block.begin → next.before ≡ Some block.begin
+      → Visit m (stages_along block.route) (next_block (route_of (stages_along block.route)) block.begin) block.begin (delay_of best') (origin_of best') (last_of best')
+      → Reached m route span end next best'
+  reached_next next best' along begin before w =
+      let later : first_block (route_of (stages_along block.route)) < next.begin =
+      omega (arith, begin, v.visit.reached, next_after (stages_along block.route) (some block.route) (laws block.route) block.begin) in
+      record {
+        along = along ∙ v.along;
+        common = subst (λ r. Common span (stages_along r)) (sym along) v.common;
+        end_is = v.end_is ∙ ap (λ r. last_block r span) (sym along);
+        before = subst (λ p. MatchOption p (next.begin ≡ first_block (route_of (stages_along next.route)))
+            (λ q. first_block (route_of (stages_along next.route)) < next.begin)) (sym before)
+            (subst (λ r. first_block (route_of (stages_along r)) < next.begin) (sym along) later);
+        visit = subst (λ r. Visit m (stages_along r) next.begin (unwrap_or next.before 0) (delay_of best') (origin_of best') (last_of best')) (sym along)
+            (subst (λ x. Visit m (stages_along block.route) x (unwrap_or next.before 0) (delay_of best') (origin_of best') (last_of best')) (sym begin)
+            (subst (λ p. Visit m (stages_along block.route) (next_block (route_of (stages_along block.route)) block.begin) (unwrap_or p 0)
+            (delay_of best') (origin_of best') (last_of best')) (sym before) w));
+      }
 
-      pub takes : Counting m (first_block (route_of (stages_of rows))) f
-          → start_of (first_stage (stages_of rows)) (from_of m f p) ≤ stop_of (last_stage (stages_of rows)) (end_in m near far)
-      takes k =
-          omega (
-            arith,
-            ap (stop_of (last_stage (stages_of rows))) end_is_longest,
-            visit_in_time m (stages_of rows) (stages_some rows some) (all_laws rows) f p d o l v.visit k,
-          )
+  pub on_time : span ≤ 100_000_000 → block.begin ≤ end
+      → start_of (first_stage (stages_along block.route)) (next_block (route_of (stages_along block.route)) block.begin + 1) < 2 ^ 36
+  on_time short h = next_early block.route span v.common short block.begin (omega (arith, v.end_is))
 
-      delay_is : stop_of (last_stage (stages_of rows)) (end_in m near far) - start_of (first_stage (stages_of rows)) (from_of m f p)
-          ≡ delay_in m (stages_of rows) f p
-      delay_is =
-          ap (λ x. stop_of (last_stage (stages_of rows)) x - start_of (first_stage (stages_of rows)) (from_of m f p)) end_is_longest
+  pub later : block.begin < next_block (route_of (stages_along block.route)) block.begin
+  later = next_after (stages_along block.route) (some block.route) (laws block.route) block.begin
 
-      module _ (next_comes : next + 1 ≡ (route_of (stages_of rows)).back (far + 1)) where
-        on : (d' o' l' : ℕ) → Visit m (stages_of rows) (next_block (route_of (stages_of rows)) f) f d' o' l' → Reached m rows next f far d' o' l'
-        on d' o' l' w =
-            let e = next_is rows some f far next far_is next_comes in
-            record {
-              visit = subst (λ x. Visit m (stages_of rows) x f d' o' l') (sym e) w;
-              near_is = far_is ∙ sym (next_ahead (stages_of rows) (stages_some rows some) (all_laws rows) f) ∙ ap (route_of (stages_of rows)).ahead (sym e);
-              near_early = far_early f far h far_is;
-            }
+-- The end of the search.
+module _ (m : Semantics) (route : Route) (span end : ℕ) (block : Block) (best : Option Longest) (v : Reached m route span end block best) (past : end < block.begin) where
+  far : last_block block.route span < block.begin
+  far = omega (arith, v.end_is)
 
-        pub reached_more : (d' o' l' : ℕ) → Counting m (first_block (route_of (stages_of rows))) f
-            → d' ≡ stop_of (last_stage (stages_of rows)) (end_in m near far) - start_of (first_stage (stages_of rows)) (from_of m f p)
-            → o' ≡ from_of m f p → l' ≡ end_in m near far → d < d' → Reached m rows next f far d' o' l'
-        reached_more d' o' l' k ed eo el up =
-            let nb : ℕ = next_block (route_of (stages_of rows)) f in
-            on d' o' l'
-            (subst (λ x. Visit m (stages_of rows) nb f x o' l') (sym (ed ∙ delay_is))
-            (subst (λ x. Visit m (stages_of rows) nb f (delay_in m (stages_of rows) f p) x l') (sym eo)
-            (subst (λ x. Visit m (stages_of rows) nb f (delay_in m (stages_of rows) f p) (from_of m f p) x) (sym (el ∙ end_is_longest))
-            (visit_more m (stages_of rows) (stages_some rows some) (all_laws rows) f p d o l v.visit k (omega (arith, ed, delay_is))))))
+  pub found_some : IsSome best
+  found_some =
+      go best (visit_positive m (stages_along block.route) (some block.route) (laws block.route) span v.common block.begin (unwrap_or block.before 0)
+      (delay_of best) (origin_of best) (last_of best) v.visit far)
+    where
+      go : (best : Option Longest) → 0 < delay_of best → IsSome best
+      go None h = absurd (omega arith)
+      go (Some l) h = refl
 
-        pub reached_same : (d' : ℕ) → Counting m (first_block (route_of (stages_of rows))) f
-            → d' ≡ stop_of (last_stage (stages_of rows)) (end_in m near far) - start_of (first_stage (stages_of rows)) (from_of m f p)
-            → d' ≤ d → Reached m rows next f far d o l
-        reached_same d' k ed down =
-            on d o l (visit_same m (stages_of rows) (stages_some rows some) (all_laws rows) f p d o l v.visit k (omega (arith, ed, delay_is)))
+  module _ (l : Longest) (is : best ≡ Some l) where
+    visited : Visit m (stages_along block.route) block.begin (unwrap_or block.before 0) l.delay l.origin l.last
+    visited =
+        subst (λ o. Visit m (stages_along block.route) block.begin (unwrap_or block.before 0) (delay_of o) (origin_of o) (last_of o)) is v.visit
 
-        pub reached_skip : ¬ Counting m (first_block (route_of (stages_of rows))) f → Reached m rows next f far d o l
-        reached_skip k = on d o l (visit_skip m (stages_of rows) (stages_some rows some) (all_laws rows) f p d o l v.visit k)
+    pub reached_figure : Figure m (stages_along route) l.delay (shown_predecessor m l.origin) (witness_to (stages_along route) l.last)
+    reached_figure =
+        subst (λ r. Figure m (stages_along r) l.delay (shown_predecessor m l.origin) (witness_to (stages_along r) l.last)) v.along
+        (visit_finish m (stages_along block.route) (some block.route) (laws block.route) span v.common block.begin (unwrap_or block.before 0)
+        l.delay l.origin l.last visited far)
 
-    -- The end of the search.
-    module _ (f p near d o l : ℕ) (v : Reached m rows f p near d o l) (past : last_block rows span < f) where
-      pub reached_figure : Figure m (stages_of rows) d (shown_predecessor m o) (witness_to (stages_of rows) l)
-      reached_figure = visit_finish m (stages_of rows) (stages_some rows some) (all_laws rows) span c f p d o l v.visit past
+    pub reached_there : 0 < (route_of (stages_along route)).back (l.last + 1)
+    reached_there =
+        subst (λ r. 0 < (route_of (stages_along r)).back (l.last + 1)) v.along
+        (visit_written m (stages_along block.route) (some block.route) (laws block.route) span v.common block.begin (unwrap_or block.before 0)
+        l.delay l.origin l.last visited far)
 
-      pub reached_there : 0 < (route_of (stages_of rows)).back (l + 1)
-      reached_there = visit_written m (stages_of rows) (stages_some rows some) (all_laws rows) span c f p d o l v.visit past
+    pub reached_early : start_of (last_stage (stages_along route)) l.last < 2 ^ 40
+    reached_early =
+        let lawful = last_lawful (stages_along block.route) (some block.route) (laws block.route) in
+        let low : l.last < block.far = omega (arith, visited.last_low, block.near_is, block.opens) in
+        subst (λ r. start_of (last_stage (stages_along r)) l.last < 2 ^ 40) v.along
+        (omega (arith, (in_order (last_stage (stages_along block.route)) lawful).starts_rise l.last block.far low, block.early))
 
-      pub reached_early : start_of (last_stage (stages_of rows)) l < 2 ^ 40
-      reached_early =
-          let ll = last_lawful (stages_of rows) (stages_some rows some) (all_laws rows) in
-          let low : l ≤ near = omega (arith, v.visit.last_low, v.near_is) in
-          ⊎_elim (λ k. omega (arith, (in_order (last_stage (stages_of rows)) ll).starts_rise l near k, v.near_early))
-          (λ k. let e : start_of (last_stage (stages_of rows)) l ≡ start_of (last_stage (stages_of rows)) near =
-          ap (start_of (last_stage (stages_of rows))) (omega arith) in
-          omega (arith, v.near_early))
-          (cases_lt l near)
+-- What the comparison with the best so far says.
+pub is_longer : (best : Option Longest) (l : Longest) (Longer : Longest → Type 0) → 0 < l.delay → MatchOption best (IsTrue true) Longer
+    → ((b : Longest) → Longer b → b.delay < l.delay) → delay_of best < l.delay
+is_longer None l Longer low h law = low
+is_longer (Some b) l Longer low h law = law b h
+
+pub is_no_longer : (best : Option Longest) (l : Longest) (Shorter : Longest → Type 0) → MatchOption best (IsTrue false) Shorter
+    → ((b : Longest) → Shorter b → l.delay ≤ b.delay) → l.delay ≤ delay_of best
+is_no_longer None l Shorter h law = absurd (false≢true h)
+is_no_longer (Some b) l Shorter h law = law b h

@@ -1,56 +1,90 @@
--- One hop, step by step as the code takes it.
+-- One hop between rows in memory, step by step as the code takes it.
 -- Assumes nothing.
-use Rattle.std.proofs.Common.{◌≡◌, ℕ, ◌+◌, ◌-◌, ◌<◌, ◌≤◌, true, false, sym, subst, ⊎_elim, arith}
-use Rattle.std.proofs.lemmas.Bool.{cases_lt, cond-true, cond-false}
+use Rattle.std.proofs.Common.{◌≡◌, ℕ, ◌+◌, ◌-◌, ◌^◌, ◌<◌, ◌≤◌, Option, Some, None, refl, sym, subst, ⊎_elim, arith}
+use Rattle.std.specs.Option.{SomeIff, IsSome}
+use Rattle.std.proofs.lemmas.Bool.{cases_lt}
 use Rattle.stage.specs.Stages.{Stage, Lawful, start_of, stop_of}
 use Rattle.stage.specs.Instances.{FirstFrom}
 use Rattle.stage.proofs.Order.{in_order}
-use Rattle.path.specs.Forward.{Waits, does_wait}
-use Rattle.path.specs.Steps.{ready_of, ahead_of, back_of}
-use Rattle.path.proofs.Ready.{waits_cases, ahead_first, back_waiting, back_stopped, back_running, back_nothing}
+use Rattle.path.specs.Given.{stage_in}
+use Rattle.path.specs.declared.hop.Hop.{Hop}
+use Rattle.path.specs.Forward.{Waits}
+use Rattle.path.specs.Steps.{ahead_of, back_of}
+use Rattle.path.proofs.Given.{laws_in}
+use Rattle.path.proofs.Ready.{ready_start, ready_stop, ahead_first, back_waiting, back_stopped, back_running, back_nothing}
 
--- the test of waiting, and what it says
-pub waits_true : (w r : Stage) → does_wait w r ≡ true → Waits w r
-waits_true w r e = ⊎_elim (λ k. k.1) (λ k. let z : ◌≡◌ {A = ℕ} 0 1 = cc (k.0, e) in absurd (omega arith)) (waits_cases w r)
+-- a time that fits is answered, and the answer is that time
+pub answered : (o : Option ℕ) (t : ℕ) → SomeIff o (t < 2 ^ 64) t → t < 2 ^ 64 → IsSome o
+answered None t h l = absurd (h l)
+answered (Some x) t h l = refl
 
-pub waits_false : (w r : Stage) → does_wait w r ≡ false → ¬ Waits w r
-waits_false w r e = ⊎_elim (λ k. let z : ◌≡◌ {A = ℕ} 0 1 = cc (k.0, e) in absurd (omega arith)) (λ k. k.1) (waits_cases w r)
+pub answer_is : (o : Option ℕ) (t x : ℕ) → SomeIff o (t < 2 ^ 64) t → o ≡ Some x → x ≡ t
+answer_is None t x h e = cc
+answer_is (Some y) t x h e = let s = h.1 in cc
 
 pub stop_soon : (s : Stage) → Lawful s → (i : ℕ) → stop_of s i ≤ start_of s i + 100_000_000
 stop_soon s l i = omega (arith, (in_order s l).stop_before_next i, (in_order s l).next_within_cycle i, l.cycle_high)
 
-module _ (w r : Stage) (lw : Lawful w) (lr : Lawful r) where
-  pub ahead_waiting : (i n : ℕ) → does_wait w r ≡ true → FirstFrom r (start_of w i) n → n ≡ ahead_of w r i
-  unfolding ready_of
-  ahead_waiting i n e f =
-      ahead_first w r lw lr i n (subst (λ t. FirstFrom r t n) (sym (cond-true (does_wait w r) (start_of w i) (stop_of w i) e)) f)
+-- What the step back from reader j learns, which starts at t and before which n writers start.
+pub record StepsBack (hop : Hop) (j t n : ℕ) : Type 0 where
+  -- some writer has started, and the last of them stops soon
+  pub some : 1 ≤ n
+  pub stops : stop_of (stage_in hop.writer.now) (n - 1) ≤ t + 100_000_000
+  -- it is the one that is read, where the reader waits or it has stopped
+  pub waiting : Waits (stage_in hop.writer.now) (stage_in hop.reader.now)
+      → n - 1 + 1 ≡ back_of (stage_in hop.writer.now) (stage_in hop.reader.now) (j + 1)
+  pub stopped : ¬ Waits (stage_in hop.writer.now) (stage_in hop.reader.now) → stop_of (stage_in hop.writer.now) (n - 1) ≤ t
+      → n - 1 + 1 ≡ back_of (stage_in hop.writer.now) (stage_in hop.reader.now) (j + 1)
+  -- otherwise the one before it
+  pub running : ¬ Waits (stage_in hop.writer.now) (stage_in hop.reader.now) → t < stop_of (stage_in hop.writer.now) (n - 1)
+      → n - 1 ≡ back_of (stage_in hop.writer.now) (stage_in hop.reader.now) (j + 1)
 
-  pub ahead_stopped : (i n : ℕ) → does_wait w r ≡ false → FirstFrom r (stop_of w i) n → n ≡ ahead_of w r i
-  unfolding ready_of
-  ahead_stopped i n e f =
-      ahead_first w r lw lr i n (subst (λ t. FirstFrom r t n) (sym (cond-false (does_wait w r) (start_of w i) (stop_of w i) e)) f)
+module _ (hop : Hop) where
+  lw : Lawful (stage_in hop.writer.now)
+  lw = laws_in hop.writer.now
 
-  -- t is when reader j starts, and n writers start by then
-  module _ (j t n : ℕ) (e : t ≡ start_of r j) (g : FirstFrom w (t + 1) n) (there : 0 < back_of w r (j + 1)) where
-    first : FirstFrom w (start_of r j + 1) n
-    first = subst (λ x. FirstFrom w (x + 1) n) e g
+  lr : Lawful (stage_in hop.reader.now)
+  lr = laws_in hop.reader.now
 
-    -- some writer has started
-    pub back_some : 1 ≤ n
-    back_some = ⊎_elim (λ k. omega arith) (λ k. omega (arith, back_nothing w r lw lr j n first (omega arith))) (cases_lt 0 n)
+  pub writer_stops : (i : ℕ) → stop_of (stage_in hop.writer.now) i ≤ start_of (stage_in hop.writer.now) i + 100_000_000
+  writer_stops i = stop_soon (stage_in hop.writer.now) lw i
 
-    -- and the last of them stops soon
-    pub back_stops : stop_of w (n - 1) ≤ t + 100_000_000
-    back_stops = let s = back_some in omega (arith, first.earlier (n - 1) (omega arith), stop_soon w lw (n - 1))
+  pub ahead_waiting : (i n : ℕ) → Waits (stage_in hop.writer.now) (stage_in hop.reader.now)
+      → FirstFrom (stage_in hop.reader.now) (start_of (stage_in hop.writer.now) i) n
+      → n ≡ ahead_of (stage_in hop.writer.now) (stage_in hop.reader.now) i
+  ahead_waiting i n h f =
+      ahead_first (stage_in hop.writer.now) (stage_in hop.reader.now) lw lr i n
+      (subst (λ t. FirstFrom (stage_in hop.reader.now) t n)
+      (sym (ready_start (stage_in hop.writer.now) (stage_in hop.reader.now) i h)) f)
 
-    -- it is the one that is read, where the reader waits or it has stopped
-    pub back_waits : does_wait w r ≡ true → n - 1 + 1 ≡ back_of w r (j + 1)
-    back_waits h = let s = back_some in omega (arith, back_waiting w r lw lr j n first (waits_true w r h))
+  pub ahead_stopped : (i n : ℕ) → ¬ Waits (stage_in hop.writer.now) (stage_in hop.reader.now)
+      → FirstFrom (stage_in hop.reader.now) (stop_of (stage_in hop.writer.now) i) n
+      → n ≡ ahead_of (stage_in hop.writer.now) (stage_in hop.reader.now) i
+  ahead_stopped i n h f =
+      ahead_first (stage_in hop.writer.now) (stage_in hop.reader.now) lw lr i n
+      (subst (λ t. FirstFrom (stage_in hop.reader.now) t n)
+      (sym (ready_stop (stage_in hop.writer.now) (stage_in hop.reader.now) i h)) f)
 
-    pub back_stopping : does_wait w r ≡ false → stop_of w (n - 1) ≤ t → n - 1 + 1 ≡ back_of w r (j + 1)
-    back_stopping h k =
-        let s = back_some in omega (arith, back_stopped w r lw lr j n first (waits_false w r h) (omega arith) (omega arith))
+steps_back : (w r : Stage) → Lawful w → Lawful r → (j n : ℕ) → FirstFrom w (start_of r j + 1) n → 0 < back_of w r (j + 1) → 1 ≤ n
+steps_back w r lw lr j n f there =
+    ⊎_elim (λ k. omega arith) (λ k. omega (arith, back_nothing w r lw lr j n f (omega arith))) (cases_lt 0 n)
 
-    -- otherwise the one before it
-    pub back_before : does_wait w r ≡ false → t < stop_of w (n - 1) → n - 1 ≡ back_of w r (j + 1)
-    back_before h k = let s = back_some in back_running w r lw lr j n first (waits_false w r h) (omega arith) (omega arith)
+pub step_back : (hop : Hop) (j t n : ℕ) (o : Option ℕ)
+    → SomeIff o (start_of (stage_in hop.reader.now) j < 2 ^ 64) (start_of (stage_in hop.reader.now) j) → o ≡ Some t
+    → FirstFrom (stage_in hop.writer.now) (t + 1) n
+    → 0 < back_of (stage_in hop.writer.now) (stage_in hop.reader.now) (j + 1) → StepsBack hop j t n
+step_back hop j t n o look was g there =
+    let w : Stage = stage_in hop.writer.now in
+    let r : Stage = stage_in hop.reader.now in
+    let lw = laws_in hop.writer.now in
+    let lr = laws_in hop.reader.now in
+    let e = answer_is o (start_of r j) t look was in
+    let f = subst (λ x. FirstFrom w (x + 1) n) e g in
+    let some = steps_back w r lw lr j n f there in
+    record {
+      some = some;
+      stops = omega (arith, f.earlier (n - 1) (omega arith), stop_soon w lw (n - 1));
+      waiting = λ h. omega (arith, back_waiting w r lw lr j n f h);
+      stopped = λ h k. omega (arith, back_stopped w r lw lr j n f h (omega arith) (omega arith));
+      running = λ h k. back_running w r lw lr j n f h (omega arith) (omega arith);
+    }

@@ -1,145 +1,212 @@
--- The steps along a route, as the loops of the code take them.
+-- The steps along a route, as the loops of the code take them: ahead over what is left of its rows at their end, and
+-- back over what is left at their front.
 -- Assumes nothing.
-use Rattle.std.proofs.Common.{◌≡◌, ℕ, ◌+◌, ◌-◌, ◌*◌, ◌^◌, ◌<◌, ◌≤◌, ◌≢◌, List, length, get_or, take, drop, set, sym, refl, ap, ◌∙◌, subst, ⊎_elim, arith}
-use Rattle.std.specs.List.{AllByRecursion}
-use Rattle.std.proofs.ByRecursion.{All-get_or}
-use Rattle.std.proofs.lemmas.List.{length-take-le, get_or-take, get_or-set_same, get_or-set_other}
-use Rattle.std.proofs.lemmas.Bool.{cases_lt}
-use Rattle.stage.specs.Stages.{Stage, Lawful, start_of}
+use Rattle.std.proofs.Common.{◌≡◌, ℕ, ◌+◌, ◌-◌, ◌*◌, ◌^◌, ◌<◌, ◌≤◌, List, [], ◌∷◌, ◌++◌, length, get_or, take, drop, sym, refl, ap, ◌∙◌, subst, arith}
+use Rattle.std.proofs.lemmas.List.{length-take-le, get_or-take, get_or-drop, take_more, take_all, map_push}
+use Rattle.stage.specs.Stages.{Stage, start_of}
 use Rattle.stage.specs.declared.lawful.LawfulRow.{LawfulRow}
 use Rattle.path.specs.Given.{stage_in, stages_of}
-use Rattle.path.specs.Timed.{first_stage, last_stage, no_stage}
-use Rattle.path.specs.Steps.{ahead_of, back_of, route_of, witness_to}
-use Rattle.path.proofs.Given.{all_laws, stage_at, stages_length}
-use Rattle.path.proofs.Rows.{ahead_drop, back_drop, ahead_last, back_last, first_stage_at, last_stage_at, steps_back, witness_from_entries}
-use Rattle.path.proofs.Search.{walk_back}
-use Rattle.path.proofs.Sizes.{ahead_soon}
+use Rattle.path.specs.Timed.{last_or, first_stage, last_stage, no_stage, first_of}
+use Rattle.path.specs.Steps.{Hop, ahead_of, back_of, hops_from, hop_along, route_of, trace_back, witness_to}
+use Rattle.path.proofs.Given.{all_laws, laws_in, stage_at, stages_length}
+use Rattle.path.proofs.Routes.{positive_inside}
+use Rattle.path.proofs.Rows.{last_stage_at}
+use Rattle.path.proofs.Search.{tied}
+use Rattle.path.proofs.Sizes.{ahead_soon, back_earlier}
 
--- The walk ahead from instance i has come to instance x of stage k.
-pub record Walked (ss : List Stage) (i k x : ℕ) : Type 0 where
-  pub same : (route_of (drop k ss)).ahead x ≡ (route_of ss).ahead i
-  pub early : start_of (get_or ss k no_stage) x ≤ 2 ^ 36 + k * 200_000_000
+-- The walk ahead from instance i of the first row has come to instance x of the first of the rows that are left.
+pub record Walked (rows rest : List LawfulRow) (i x : ℕ) : Type 0 where
+  pub some : 0 < length rest
+  pub same : (route_of (stages_of rest)).ahead x ≡ (route_of (stages_of rows)).ahead i
+  pub last : last_stage (stages_of rest) ≡ last_stage (stages_of rows)
+  pub early : start_of (first_stage (stages_of rest)) x + length rest * 200_000_000 ≤ 2 ^ 36 + length rows * 200_000_000
 
-module _ (ss : List Stage) (ls : AllByRecursion Lawful ss) (i : ℕ) where
-  pub walked_none : start_of (first_stage ss) i < 2 ^ 36 → Walked ss i 0 i
-  walked_none h = record { same = refl; early = omega (arith, ap (λ s. start_of s i) (first_stage_at ss)) }
+pub walked_none : (rows : List LawfulRow) (i : ℕ) → 0 < length rows → start_of (first_stage (stages_of rows)) i < 2 ^ 36 → Walked rows rows i i
+walked_none rows i some early = record { some = some; same = refl; last = refl; early = omega arith }
 
-  pub walked_more : (k x : ℕ) → k + 1 < length ss → Walked ss i k x → Walked ss i (k + 1) (ahead_of (get_or ss k no_stage) (get_or ss (k + 1) no_stage) x)
-  walked_more k x h w =
-      let lw = All-get_or Lawful ss k no_stage (omega arith) ls in
-      let lr = All-get_or Lawful ss (k + 1) no_stage h ls in
-      record {
-        same = sym (ahead_drop ss no_stage k x h) ∙ w.same;
-        early = omega (arith, ahead_soon (get_or ss k no_stage) (get_or ss (k + 1) no_stage) lw lr x, lw.cycle_high, lr.cycle_high, w.early);
-      }
+-- one turn, at a window of two of the rows that are left
+module _ (rows rest pair : List LawfulRow) (size : ℕ) (two : size ≡ 2) (room : size ≤ length rest) (pair_is : pair ≡ take size rest) (i x : ℕ) (k : Walked rows rest i x) where
+  front : pair ≡ take 2 rest
+  front = pair_is ∙ ap (λ n. take n rest) two
 
-  pub walked_all : (k x : ℕ) → length ss ≡ k + 1 → Walked ss i k x → x ≡ (route_of ss).ahead i
-  walked_all k x h w = sym (ahead_last ss k x h) ∙ w.same
+  pub walked_early : (a : LawfulRow) → length rows ≤ 16 → start_of (stage_in (get_or pair 0 a)) x < 2 ^ 40
+  walked_early a few = subst (λ p. start_of (stage_in (get_or p 0 a)) x < 2 ^ 40) (sym front) (early rest (omega arith) k)
+    where
+      early : (rest : List LawfulRow) → 2 ≤ length rest → Walked rows rest i x → start_of (stage_in (get_or (take 2 rest) 0 a)) x < 2 ^ 40
+      early [] h k = absurd (omega arith)
+      early (w ∷ rest) h k = omega (arith, k.early)
 
--- The walk back from instance j of the last stage has come to instance x of stage k.
-pub record Traced (ss : List Stage) (j k x : ℕ) : Type 0 where
-  pub same : x + 1 ≡ (route_of (drop k ss)).back (j + 1)
-  pub early : start_of (get_or ss k no_stage) x < 2 ^ 40
+  pub walked_more : (after : List LawfulRow) (n : ℕ) (a b : LawfulRow) → after ≡ drop 1 rest
+      → n ≡ ahead_of (stage_in (get_or pair 0 a)) (stage_in (get_or pair 1 b)) x → Walked rows after i n
+  walked_more after n a b after_is e =
+      subst (λ l. Walked rows l i n) (sym after_is)
+      (more rest (omega arith) k (subst (λ p. n ≡ ahead_of (stage_in (get_or p 0 a)) (stage_in (get_or p 1 b)) x) front e))
+    where
+      more : (rest : List LawfulRow) → 2 ≤ length rest → Walked rows rest i x
+          → n ≡ ahead_of (stage_in (get_or (take 2 rest) 0 a)) (stage_in (get_or (take 2 rest) 1 b)) x → Walked rows (drop 1 rest) i n
+      more [] h k e = absurd (omega arith)
+      more (w ∷ []) h k e = absurd (omega arith)
+      more (w ∷ (r ∷ rest)) h k e =
+          let lw = laws_in w in
+          let lr = laws_in r in
+          record {
+            some = omega arith;
+            same = ap (route_of (stages_of (r ∷ rest))).ahead e ∙ k.same;
+            last = k.last;
+            early = omega (arith, ahead_soon (stage_in w) (stage_in r) lw lr x, lw.cycle_high, lr.cycle_high, k.early, ap (start_of (stage_in r)) e);
+          }
 
-module _ (ss : List Stage) (ls : AllByRecursion Lawful ss) (j : ℕ) (there : 0 < (route_of ss).back (j + 1)) where
-  pub traced_last : (k : ℕ) → length ss ≡ k + 1 → start_of (last_stage ss) j < 2 ^ 40 → Traced ss j k j
-  traced_last k h low =
-      record { same = sym (back_last ss k (j + 1) h); early = omega (arith, ap (λ s. start_of s j) (last_stage_at ss k h)) }
+pub record WalkedAll (rows : List LawfulRow) (i x : ℕ) : Type 0 where
+  pub ahead : x ≡ (route_of (stages_of rows)).ahead i
+  pub early : start_of (last_stage (stages_of rows)) x < 2 ^ 40
 
-  back_here : (k x : ℕ) → k + 1 < length ss → Traced ss j (k + 1) x → (route_of (drop k ss)).back (j + 1) ≡ back_of (get_or ss k no_stage) (get_or ss (k + 1) no_stage) (x + 1)
-  back_here k x h t = back_drop ss no_stage k (j + 1) h ∙ ap (back_of (get_or ss k no_stage) (get_or ss (k + 1) no_stage)) (sym t.same)
+pub walked_all : (rows rest : List LawfulRow) (i x : ℕ) → length rows ≤ 16 → length rest < 2 → Walked rows rest i x → WalkedAll rows i x
+walked_all rows [] i x few one k = absurd (omega (arith, k.some))
+walked_all rows (s ∷ []) i x few one k =
+    record { ahead = k.same; early = omega (arith, k.early, ap (λ s. start_of s x) k.last) }
+walked_all rows (s ∷ (r ∷ rest)) i x few one k = absurd (omega arith)
 
-  pub traced_there : (k x : ℕ) → k + 1 < length ss → Traced ss j (k + 1) x → 0 < back_of (get_or ss k no_stage) (get_or ss (k + 1) no_stage) (x + 1)
-  traced_there k x h t = subst (λ c. 0 < c) (back_here k x h t) (steps_back ss ls (j + 1) k (omega arith) there)
+-- One more stage behind the others.
 
-  pub traced_more : (k x n : ℕ) → k + 1 < length ss → Traced ss j (k + 1) x → n + 1 ≡ back_of (get_or ss k no_stage) (get_or ss (k + 1) no_stage) (x + 1) → Traced ss j k n
-  traced_more k x n h t e =
-      let b : ℕ = back_of (get_or ss k no_stage) (get_or ss (k + 1) no_stage) (x + 1) in
-      let z : start_of (get_or ss k no_stage) (b - 1) ≡ start_of (get_or ss k no_stage) n = ap (start_of (get_or ss k no_stage)) (omega arith) in
-      record {
-        same = e ∙ sym (back_here k x h t);
-        early = omega (arith, walk_back ss ls no_stage k x h (traced_there k x h t), t.early);
-      }
+last_or-push : (s : Stage) (ss : List Stage) (r : Stage) → last_or s (ss ++ r ∷ []) ≡ r
+last_or-push s [] r = refl
+last_or-push s (t ∷ ss) r = last_or-push t ss r
 
-  pub traced_path : 0 < length ss → (path : List ℕ) → length ss ≤ length path → ((k : ℕ) → k < length ss → Traced ss j k (get_or path k 0)) → take (length ss) path ≡ witness_to ss j
-  traced_path some path room at =
-      witness_from_entries ss ls j (take (length ss) path) some there (length-take-le (length ss) path room)
-      (λ k h. ap (λ x. x + 1) (get_or-take (length ss) path k 0 h) ∙ (at k h).same)
+back-push : (s : Stage) (ss : List Stage) (r : Stage) (c : ℕ)
+    → (hop_along (hops_from s (ss ++ r ∷ []))).back c ≡ (hop_along (hops_from s ss)).back (back_of (last_or s ss) r c)
+back-push s [] r c = refl
+back-push s (t ∷ ss) r c = ap (back_of s t) (back-push t ss r c)
 
--- The same over rows in memory, of which the code reads two neighbours a and b.
+trace_back-push : (s : Stage) (ss : List Stage) (r : Stage) (j : ℕ)
+    → trace_back (hops_from s (ss ++ r ∷ [])) j ≡ trace_back (hops_from s ss) (back_of (last_or s ss) r (j + 1) - 1) ++ j ∷ []
+unfolding trace_back
+trace_back-push s [] r j = refl
+trace_back-push s (t ∷ ss) r j =
+    subst (λ l. (back_of s t (first_of l + 1) - 1) ∷ l
+    ≡ (back_of s t (first_of (trace_back (hops_from t ss) (back_of (last_or t ss) r (j + 1) - 1)) + 1) - 1)
+    ∷ (trace_back (hops_from t ss) (back_of (last_or t ss) r (j + 1) - 1) ++ j ∷ []))
+    (sym (trace_back-push t ss r j))
+    (ap (λ x. (back_of s t (x + 1) - 1) ∷ (trace_back (hops_from t ss) (back_of (last_or t ss) r (j + 1) - 1) ++ j ∷ []))
+    (first_of-append (hops_from t ss) (back_of (last_or t ss) r (j + 1) - 1) (j ∷ [])))
+  where
+    first_of-append : (hs : List Hop) (x : ℕ) (l : List ℕ) → first_of (trace_back hs x ++ l) ≡ first_of (trace_back hs x)
+    first_of-append [] x l = refl
+    first_of-append (h ∷ hs) x l = refl
 
-pub stage_read : (rows : List LawfulRow) (k : ℕ) (x : LawfulRow) → k < length rows → x ≡ get_or rows k x → get_or (stages_of rows) k no_stage ≡ stage_in x
-stage_read rows k x h e = stage_at rows k x no_stage h ∙ ap stage_in (sym e)
+-- The same of a whole route.
+module _ (ss : List Stage) (some : 0 < length ss) (r : Stage) where
+  pub last_stage-push : last_stage (ss ++ r ∷ []) ≡ r
+  last_stage-push = go ss
+    where
+      go : (ss : List Stage) → last_stage (ss ++ r ∷ []) ≡ r
+      go [] = refl
+      go (s ∷ ss) = last_or-push s ss r
 
-pub first_read : (rows : List LawfulRow) (a : LawfulRow) → 0 < length rows → a ≡ get_or rows 0 a → first_stage (stages_of rows) ≡ stage_in a
-first_read rows a h e = first_stage_at (stages_of rows) ∙ stage_read rows 0 a h e
+  pub route_back-push : (c : ℕ) → (route_of (ss ++ r ∷ [])).back c ≡ (route_of ss).back (back_of (last_stage ss) r c)
+  route_back-push c = go ss some
+    where
+      go : (ss : List Stage) → 0 < length ss → (route_of (ss ++ r ∷ [])).back c ≡ (route_of ss).back (back_of (last_stage ss) r c)
+      go [] h = absurd (omega arith)
+      go (s ∷ ss) h = back-push s ss r c
 
-pub last_read : (rows : List LawfulRow) (b : LawfulRow) → 0 < length rows → b ≡ get_or rows (length rows - 1) b → last_stage (stages_of rows) ≡ stage_in b
-last_read rows b h e =
-    last_stage_at (stages_of rows) (length rows - 1) (omega (arith, stages_length rows)) ∙ stage_read rows (length rows - 1) b (omega arith) e
+  pub witness_to-push : (j : ℕ) → witness_to (ss ++ r ∷ []) j ≡ witness_to ss (back_of (last_stage ss) r (j + 1) - 1) ++ j ∷ []
+  witness_to-push j = go ss some
+    where
+      go : (ss : List Stage) → 0 < length ss → witness_to (ss ++ r ∷ []) j ≡ witness_to ss (back_of (last_stage ss) r (j + 1) - 1) ++ j ∷ []
+      go [] h = absurd (omega arith)
+      go (s ∷ ss) h = trace_back-push s ss r j
 
-module _ (rows : List LawfulRow) (k : ℕ) (a b : LawfulRow) (h : k + 1 < length rows) (ea : a ≡ get_or rows k a) (eb : b ≡ get_or rows (k + 1) b) where
-  inside : k + 1 < length (stages_of rows)
-  inside = omega (arith, stages_length rows)
+-- The walk back from instance j of the last row has come to instance x of the last of the rows that are left.
+pub record Traced (rows front : List LawfulRow) (j x : ℕ) : Type 0 where
+  pub some : 0 < length front
+  pub same : (route_of (stages_of front)).back (x + 1) ≡ (route_of (stages_of rows)).back (j + 1)
+  pub early : start_of (last_stage (stages_of front)) x < 2 ^ 40
 
-  two_ahead : (x : ℕ) → ahead_of (get_or (stages_of rows) k no_stage) (get_or (stages_of rows) (k + 1) no_stage) x ≡ ahead_of (stage_in a) (stage_in b) x
-  two_ahead x =
-      ap (λ w. ahead_of w (get_or (stages_of rows) (k + 1) no_stage) x) (stage_read rows k a (omega arith) ea)
-      ∙ ap (λ r. ahead_of (stage_in a) r x) (stage_read rows (k + 1) b h eb)
+-- one turn, at a window of two of the rows that are left
+module _ (rows front pair : List LawfulRow) (size : ℕ) (two : size ≡ 2) (room : size ≤ length front) (pair_is : pair ≡ drop (length front - size) front)
+    (j x : ℕ) (there : 0 < (route_of (stages_of rows)).back (j + 1)) (k : Traced rows front j x) (a b : LawfulRow) where
+  abbrev before : List LawfulRow
+  before = take (length front - 1) front
 
-  two_back : (c : ℕ) → back_of (get_or (stages_of rows) k no_stage) (get_or (stages_of rows) (k + 1) no_stage) c ≡ back_of (stage_in a) (stage_in b) c
-  two_back c =
-      ap (λ w. back_of w (get_or (stages_of rows) (k + 1) no_stage) c) (stage_read rows k a (omega arith) ea)
-      ∙ ap (λ r. back_of (stage_in a) r c) (stage_read rows (k + 1) b h eb)
+  abbrev writer : Stage
+  writer = stage_in (get_or pair 0 a)
 
-  pub walked_early : (i x : ℕ) → length rows ≤ 16 → Walked (stages_of rows) i k x → start_of (stage_in a) x < 2 ^ 40
-  walked_early i x few w = omega (arith, w.early, ap (λ s. start_of s x) (stage_read rows k a (omega arith) ea))
+  abbrev reader : Stage
+  reader = stage_in (get_or pair 1 b)
 
-  pub walked_hop : (i x n : ℕ) → n ≡ ahead_of (stage_in a) (stage_in b) x → Walked (stages_of rows) i k x → Walked (stages_of rows) i (k + 1) n
-  walked_hop i x n e w =
-      subst (Walked (stages_of rows) i (k + 1)) (two_ahead x ∙ sym e) (walked_more (stages_of rows) (all_laws rows) i k x inside w)
+  long : length before ≡ length front - 1
+  long = length-take-le (length front - 1) front (omega arith)
 
-  pub traced_early : (j x : ℕ) → Traced (stages_of rows) j (k + 1) x → start_of (stage_in b) x < 2 ^ 40
-  traced_early j x t = omega (arith, t.early, ap (λ s. start_of s x) (stage_read rows (k + 1) b h eb))
+  before_some : 0 < length (stages_of before)
+  before_some = omega (arith, stages_length before, long)
 
-  module _ (j : ℕ) (there : 0 < (route_of (stages_of rows)).back (j + 1)) (x : ℕ) (t : Traced (stages_of rows) j (k + 1) x) where
-    pub traced_some : 0 < back_of (stage_in a) (stage_in b) (x + 1)
-    traced_some = subst (λ c. 0 < c) (two_back (x + 1)) (traced_there (stages_of rows) (all_laws rows) j there k x inside t)
+  row_at : (n : ℕ) (d : LawfulRow) → get_or pair n d ≡ get_or front (length front - 2 + n) d
+  row_at n d =
+      ap (λ p. get_or p n d) (pair_is ∙ ap (λ m. drop (length front - m) front) two) ∙ get_or-drop (length front - 2) front n d
 
-    pub traced_hop : (n : ℕ) → n + 1 ≡ back_of (stage_in a) (stage_in b) (x + 1) → Traced (stages_of rows) j k n
-    traced_hop n e = traced_more (stages_of rows) (all_laws rows) j there k x n inside t (e ∙ sym (two_back (x + 1)))
+  front_is : front ≡ before ++ get_or pair 1 b ∷ []
+  front_is =
+      sym (take_all (length front - 1 + 1) front (omega arith)) ∙ take_more front (length front - 1) b (omega arith)
+      ∙ ap (λ y. before ++ y ∷ []) (ap (λ n. get_or front n b) (omega arith) ∙ sym (row_at 1 b))
 
--- The walk back has written its instances from entry k on.
-abbrev pub Written : List LawfulRow → ℕ → ℕ → List ℕ → Type 0
-Written rows j k path = (i : ℕ) → k ≤ i → i < length rows → Traced (stages_of rows) j i (get_or path i 0)
+  stages_is : stages_of front ≡ stages_of before ++ reader ∷ []
+  stages_is = ap stages_of front_is ∙ map_push stage_in before (get_or pair 1 b)
 
-module _ (rows : List LawfulRow) (j : ℕ) (there : 0 < (route_of (stages_of rows)).back (j + 1)) where
-  pub traced_start : 0 < length rows → start_of (last_stage (stages_of rows)) j < 2 ^ 40 → Traced (stages_of rows) j (length rows - 1) j
-  traced_start some low =
-      traced_last (stages_of rows) (all_laws rows) j there (length rows - 1) (omega (arith, stages_length rows)) low
+  writer_is : last_stage (stages_of before) ≡ writer
+  writer_is =
+      last_stage_at (stages_of before) (length front - 2) (omega (arith, stages_length before, long))
+      ∙ stage_at before (length front - 2) a no_stage (omega (arith, long))
+      ∙ ap stage_in (get_or-take (length front - 1) front (length front - 2) a (omega arith)
+      ∙ ap (λ n. get_or front n a) (omega arith) ∙ sym (row_at 0 a))
 
-  pub written_last : (path : List ℕ) → 0 < length rows → length rows ≤ length path → start_of (last_stage (stages_of rows)) j < 2 ^ 40
-      → Written rows j (length rows - 1) (set path (length rows - 1) j)
-  written_last path some room low i lo hi =
-      let e : length rows - 1 ≡ i = omega arith in
-      let new : get_or (set path (length rows - 1) j) (length rows - 1) 0 ≡ j = get_or-set_same path (length rows - 1) j 0 (omega arith) in
-      subst (λ m. Traced (stages_of rows) j m (get_or (set path (length rows - 1) j) m 0)) e
-      (subst (Traced (stages_of rows) j (length rows - 1)) (sym new) (traced_start some low))
+  steps_is : (c : ℕ) → (route_of (stages_of front)).back c ≡ (route_of (stages_of before)).back (back_of writer reader c)
+  steps_is c =
+      ap (λ ss. (route_of ss).back c) stages_is ∙ route_back-push (stages_of before) before_some reader c
+      ∙ ap (λ s. (route_of (stages_of before)).back (back_of s reader c)) writer_is
 
-  pub written_more : (path : List ℕ) (k n : ℕ) → k < length path → Traced (stages_of rows) j k n → Written rows j (k + 1) path
-      → Written rows j k (set path k n)
-  written_more path k n h t w i lo hi =
-      ⊎_elim
-      (λ up. let other : i ≢ k = λ e. omega arith in
-      subst (Traced (stages_of rows) j i) (sym (get_or-set_other path k i n 0 other)) (w i (omega arith) hi))
-      (λ down. let e : k ≡ i = omega arith in
-      subst (λ m. Traced (stages_of rows) j m (get_or (set path k n) m 0)) e
-      (subst (Traced (stages_of rows) j k) (sym (get_or-set_same path k n 0 h)) t))
-      (cases_lt k i)
+  reader_is : last_stage (stages_of front) ≡ reader
+  reader_is = ap last_stage stages_is ∙ last_stage-push (stages_of before) before_some reader
 
-  pub written_all : (path : List ℕ) → 0 < length rows → length rows ≤ length path → Written rows j 0 path
-      → take (length rows) path ≡ witness_to (stages_of rows) j
-  written_all path some room w =
-      let n = stages_length rows in
-      subst (λ m. take m path ≡ witness_to (stages_of rows) j) n
-      (traced_path (stages_of rows) (all_laws rows) j there (omega arith) path (omega arith) (λ k h. w k (omega arith) (omega arith)))
+  pub traced_early : start_of (stage_in (get_or pair 1 b)) x < 2 ^ 40
+  traced_early = omega (arith, k.early, ap (λ s. start_of s x) reader_is)
+
+  pub traced_there : 0 < back_of (stage_in (get_or pair 0 a)) (stage_in (get_or pair 1 b)) (x + 1)
+  traced_there =
+      positive_inside (route_of (stages_of before)) (tied (stages_of before) before_some (all_laws before)) (back_of writer reader (x + 1))
+      (omega (arith, steps_is (x + 1), k.same))
+
+  module _ (after : List LawfulRow) (n : ℕ) (after_is : after ≡ take (length front - 1) front)
+      (e : n + 1 ≡ back_of (stage_in (get_or pair 0 a)) (stage_in (get_or pair 1 b)) (x + 1)) where
+    pub traced_more : Traced rows after j n
+    traced_more =
+        subst (λ l. Traced rows l j n) (sym after_is)
+        (record {
+          some = omega (arith, long);
+          same = ap (route_of (stages_of before)).back e ∙ sym (steps_is (x + 1)) ∙ k.same;
+          early = omega (
+            arith,
+            ap (λ s. start_of s n) writer_is,
+            back_earlier writer reader (laws_in (get_or pair 0 a)) (laws_in (get_or pair 1 b)) x traced_there,
+            ap (λ m. start_of writer (m - 1)) e,
+            ap (start_of writer) (n_is n),
+            traced_early,
+          );
+        })
+      where
+        n_is : (n : ℕ) → n + 1 - 1 ≡ n
+        n_is n = omega arith
+
+    pub traced_witness : witness_to (stages_of front) x ≡ witness_to (stages_of after) n ++ x ∷ []
+    traced_witness =
+        ap (λ ss. witness_to ss x) stages_is ∙ witness_to-push (stages_of before) before_some reader x
+        ∙ ap (λ s. witness_to (stages_of before) (back_of s reader (x + 1) - 1) ++ x ∷ []) writer_is
+        ∙ ap (λ m. witness_to (stages_of before) m ++ x ∷ []) (omega arith)
+        ∙ ap (λ l. witness_to (stages_of l) n ++ x ∷ []) (sym after_is)
+
+pub traced_none : (rows : List LawfulRow) (j : ℕ) → 0 < length rows → start_of (last_stage (stages_of rows)) j < 2 ^ 40 → Traced rows rows j j
+traced_none rows j some early = record { some = some; same = refl; early = early }
+
+pub traced_all : (rows front : List LawfulRow) (j x : ℕ) → length front < 2 → Traced rows front j x → x + 1 ≡ (route_of (stages_of rows)).back (j + 1)
+traced_all rows [] j x one k = absurd (omega (arith, k.some))
+traced_all rows (s ∷ []) j x one k = k.same
+traced_all rows (s ∷ (r ∷ front)) j x one k = absurd (omega arith)

@@ -1,7 +1,7 @@
 -- Steps ahead and back along stages, by which timed paths can be found.
 -- No promise about figures rests on these words; they name what one step of a search answers.
 -- Assumes nothing.
-use Rattle.std.specs.Prelude.{ℕ, zero, suc, ◌+◌, ◌-◌, ◌<◌, cond, List, [], ◌∷◌, nat_lt}
+use Rattle.std.specs.Prelude.{ℕ, zero, suc, ◌+◌, ◌-◌, cond, List, [], ◌∷◌, Option, Some, nat_lt}
 use Rattle.stage.specs.Stages.{Stage, start_of, stop_of}
 use Rattle.path.specs.declared.semantics.Semantics.{Semantics}
 use Rattle.path.specs.declared.semantics.Semantics.TheVariants.{LL, LF, FL, FF}
@@ -78,19 +78,12 @@ trace_back (h ∷ hs) j = (h.back (first_of (trace_back hs j) + 1) - 1) ∷ trac
 abbrev pub witness_to : List Stage → ℕ → List ℕ
 witness_to ss j = trace_back (hops_of ss) j
 
--- which blocks have paths that count: where a predecessor is asked for, those after the first
-abbrev pub Counting : Semantics → ℕ → ℕ → Type 0
-Counting LL first f = Unit {0}
-Counting LF first f = Unit {0}
-Counting FL first f = first < f
-Counting FF first f = first < f
-
--- the instance from which delays in block f are counted, where p is the block before it
-abbrev pub from_of : Semantics → ℕ → ℕ → ℕ
-from_of LL f p = f
-from_of LF f p = f
-from_of FL f p = p
-from_of FF f p = p
+-- the instance from which delays in block f are counted, where paths of it count: p is the block before it, if there is one
+abbrev pub origin_in : Semantics → ℕ → Option ℕ → Option ℕ
+origin_in LL f p = Some f
+origin_in LF f p = Some f
+origin_in FL f p = p
+origin_in FF f p = p
 
 -- the end that takes longest in a block, whose paths end from `near` up to the one before `far`
 abbrev pub end_in : Semantics → ℕ → ℕ → ℕ

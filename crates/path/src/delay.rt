@@ -1,57 +1,47 @@
 // The largest delay along a route of lawful rows.
-ghost use Rattle.std.specs.Prelude.{◌≡◌, ℕ, ◌<◌, ◌≤◌, length, take, drop, Some, MatchResult};
-ghost use Rattle.stage.specs.Periods.{IsMacroPeriod};
+ghost use Rattle.std.specs.Prelude.{◌≡◌, length, take, drop, Some, MatchResult};
 ghost use Rattle.path.specs.Given.{stages_of};
 ghost use Rattle.path.specs.Figures.{Figure};
-ghost use Rattle.path.specs.Refusals.{Accepted, Refused, RightLength, cycles_of};
+ghost use Rattle.path.specs.Refusals.{Accepted, Refused, fault_text};
 
+use crate::largest;
+use crate::route::Route;
 use crate::semantics::Semantics;
-use crate::{largest, route};
 use stage::LawfulRow;
+use std::error::Error;
+use std::fmt;
 
 // The most stages a route has.
 pub const MAX_LENGTH: usize = 16;
 
 // The largest delay in microseconds, and the predecessor from which it is counted under FL and FF.
-#[derive(Clone, Copy, PartialEq, Eq, Debug, Drop)]
+#[derive(Clone, Copy, PartialEq, Eq, Hash, Debug)]
 pub struct Delay {
     pub delay: u64,
     pub predecessor: Option<u64>,
 }
 
 // Why a search is refused: not 1 to 16 rows, no macro-period of at most 100,000,000, or too short a buffer.
-#[derive(Clone, Copy, PartialEq, Eq, Debug, Drop)]
+#[derive(Clone, Copy, PartialEq, Eq, Hash, Debug)]
 pub enum SearchFault {
     Length,
     MacroPeriod,
     Buffer,
 }
 
-// The cycles of the rows, each in its place.
-fn cycles_of(rows: &[LawfulRow]) -> [u32; MAX_LENGTH]
-    requires { length rows.now ≤ 16 }
-    ensures { take (length rows.now) result ≡ cycles_of (stages_of rows.now) }
-{
-    let mut cycles = [0; MAX_LENGTH];
-    for (k, row) in rows.iter().enumerate() {
-        cycles[k] = row.row().cycle;
+impl fmt::Display for SearchFault {
+    ghost output = { λ fault. Some (fault_text fault) };
+
+    fn fmt<W: fmt::Write>(&self, f: &mut fmt::Formatter<W>) -> fmt::Result {
+        f.write_str(match self {
+            SearchFault::Length => "a route has 1 to 16 stages",
+            SearchFault::MacroPeriod => "the macro-period is above 100000000",
+            SearchFault::Buffer => "the buffer is shorter than the route",
+        })
     }
-    cycles
 }
 
-// The macro-period of the rows, where there are 1 to 16 of them and they have one.
-fn macro_period_of(rows: &[LawfulRow]) -> Result<u32, SearchFault>
-    ensures { MatchResult result (λ span. RightLength (stages_of rows.now) × IsMacroPeriod (cycles_of (stages_of rows.now)) (Some span)) (λ fault. (room : ℕ) → Refused fault (stages_of rows.now) room) }
-{
-    if rows.is_empty() || rows.len() > MAX_LENGTH {
-        return Err(SearchFault::Length);
-    }
-    let cycles = cycles_of(rows);
-    match stage::macro_period(&cycles[0..rows.len()]) {
-        Some(span) => Ok(span),
-        None => Err(SearchFault::MacroPeriod),
-    }
-}
+impl Error for SearchFault {}
 
 // The largest delay along the rows. The path that takes it fills the front of `witness`: of those with the largest delay
 // the one whose last instance is smallest. A refusal leaves `witness` as it was.
@@ -64,12 +54,13 @@ pub fn largest_delay(
     ensures figure { MatchResult result (λ d. Figure semantics (stages_of rows.now) d.delay d.predecessor (take (length rows.now) witness.new)) (λ _. witness.new ≡ witness.old) }
     ensures rest { drop (length rows.now) witness.new ≡ drop (length rows.now) witness.old }
 {
-    let span = macro_period_of(rows)?;
+    let route = Route::new(rows)?;
+    let span = route.macro_period()?;
     if witness.len() < rows.len() {
         return Err(SearchFault::Buffer);
     }
-    let longest = largest::longest_path(rows, semantics, span);
-    route::write_path(rows, longest.last, witness);
+    let longest = largest::longest_path(route, semantics, span);
+    route.write_path(longest.last, witness);
     Ok(Delay {
         delay: longest.delay,
         predecessor: semantics.predecessor(longest.origin),

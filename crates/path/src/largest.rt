@@ -1,15 +1,14 @@
-// The search for the largest delay, block by block: a block is the paths that have one first instance.
-ghost use Rattle.std.specs.Prelude.{◌≡◌, ◌+◌, ◌-◌, ◌^◌, ◌<◌, ◌≤◌, length};
+// The search for the largest delay, block by block.
+ghost use Rattle.std.specs.Prelude.{◌≡◌, ◌+◌, ◌^◌, ◌<◌, ◌≤◌, None, Some, IfSome};
 ghost use Rattle.stage.specs.Stages.{start_of, stop_of};
-ghost use Rattle.path.specs.Given.{stage_in, stages_of};
-ghost use Rattle.path.specs.Timed.{first_stage, last_stage};
 ghost use Rattle.path.specs.Figures.{Figure, shown_predecessor};
-ghost use Rattle.path.specs.Periods.{Common, instances_in};
-ghost use Rattle.path.specs.Steps.{route_of, witness_to, from_of, end_in};
+ghost use Rattle.path.specs.Periods.{Common};
+ghost use Rattle.path.specs.Route.{stages_along};
+ghost use Rattle.path.specs.Steps.{end_in, first_block, next_block, origin_in, route_of, witness_to};
+ghost use Rattle.path.specs.Timed.{first_stage, last_stage};
 
+use crate::route::Route;
 use crate::semantics::Semantics;
-use crate::{hop, route};
-use stage::LawfulRow;
 
 // A path: its delay, the instance of the first stage from which that is counted, and its last instance.
 #[derive(Clone, Copy)]
@@ -19,84 +18,96 @@ pub(crate) struct Longest {
     pub(crate) last: u64,
 }
 
-// How many instances of the stage start in the span.
-fn instances_in(row: &LawfulRow, span: u32) -> u64
-    ensures count { result ≡ instances_in span (stage_in row.now) }
-    ensures small { result < 2 ^ 40 }
-{
-    let row = row.row();
-    (span / row.cycle) as u64 * row.count as u64
-}
-
-// The block a span after the first one. Everything repeats from there, so later blocks show nothing new.
-fn last_block(rows: &[LawfulRow], first: u64, span: u32) -> u64
-    requires some { 0 < length rows.now }
-    requires small { first < 2 ^ 40 }
-    ensures { result ≡ first + instances_in span (first_stage (stages_of rows.now)) }
-{
-    first + instances_in(&rows[0], span)
-}
-
-// The longest path of block `block` that counts. The block before it is `before`; its paths end from `near` up to the
-// instance before `far`.
-fn longest_in(
-    rows: &[LawfulRow],
-    semantics: Semantics,
-    block: u64,
-    before: u64,
+// The paths that begin at one instance of the first stage. Their last instances are `near` up to the one before `far`.
+#[derive(Clone, Copy)]
+struct Block<'a> {
+    route: Route<'a>,
+    begin: u64,
+    // where the paths of the block before this one begin
+    before: Option<u64>,
     near: u64,
     far: u64,
-) -> Longest
-    requires some { 0 < length rows.now }
-    requires open { near < far }
-    requires taking { start_of (first_stage (stages_of rows.now)) (from_of semantics block before) ≤ stop_of (last_stage (stages_of rows.now)) (end_in semantics near far) }
-    requires early { stop_of (last_stage (stages_of rows.now)) (end_in semantics near far) < 2 ^ 40 }
-    ensures delay { result.delay ≡ stop_of (last_stage (stages_of rows.now)) (end_in semantics near far) - start_of (first_stage (stages_of rows.now)) (from_of semantics block before) }
-    ensures origin { result.origin ≡ from_of semantics block before }
-    ensures last { result.last ≡ end_in semantics near far }
-{
-    let origin = semantics.origin(block, before);
-    let last = semantics.end(near, far);
-    let start = hop::start_of(&rows[0], origin);
-    let stop = hop::stop_of(&rows[rows.len() - 1], last);
-    Longest {
-        delay: stop - start,
-        origin,
-        last,
+    ghost near_is: { near ≡ (route_of (stages_along route)).ahead begin },
+    ghost far_is: { far ≡ (route_of (stages_along route)).ahead (begin + 1) },
+    ghost opens: { near < far },
+    ghost early: { start_of (last_stage (stages_along route)) far < 2 ^ 40 },
+}
+
+impl<'a> Block<'a> {
+    ghost use Rattle.path.specs.Block.{LongestOf};
+
+    fn first(route: Route<'a>) -> Block<'a>
+        requires { start_of (first_stage (stages_along route)) (first_block (route_of (stages_along route)) + 1) < 2 ^ 36 }
+        ensures route { result.route ≡ route.entry }
+        ensures begin { result.begin ≡ first_block (route_of (stages_along route.entry)) }
+        ensures before { result.before ≡ None }
+    {
+        let near = route.ahead(0);
+        let begin = route.back(near);
+        let far = route.ahead(begin + 1);
+        Block {
+            route,
+            begin,
+            before: None,
+            near,
+            far,
+        }
+    }
+
+    fn next(&self) -> Block<'a>
+        requires { start_of (first_stage (stages_along self.now.route)) (next_block (route_of (stages_along self.now.route)) self.now.begin + 1) < 2 ^ 36 }
+        ensures route { result.route ≡ self.now.route }
+        ensures begin { result.begin ≡ next_block (route_of (stages_along self.now.route)) self.now.begin }
+        ensures before { result.before ≡ Some self.now.begin }
+    {
+        let near = self.far;
+        let begin = self.route.back(near);
+        let far = self.route.ahead(begin + 1);
+        Block {
+            route: self.route,
+            begin,
+            before: Some(self.begin),
+            near,
+            far,
+        }
+    }
+
+    // The longest path that counts, where any does.
+    fn longest(&self, semantics: Semantics) -> Option<Longest>
+        requires { IfSome (origin_in semantics self.now.begin self.now.before) (λ o. start_of (first_stage (stages_along self.now.route)) o ≤ stop_of (last_stage (stages_along self.now.route)) (end_in semantics self.now.near self.now.far)) }
+        ensures { LongestOf semantics self.now result }
+    {
+        let origin = semantics.origin(self.begin, self.before)?;
+        let last = semantics.end(self.near, self.far);
+        let start = self.route.first().start(origin).unwrap();
+        let stop = self.route.last().stop(last).unwrap();
+        Some(Longest {
+            delay: stop - start,
+            origin,
+            last,
+        })
     }
 }
 
 // The longest path that counts, of those with the largest delay the one that ends first.
-pub(crate) fn longest_path(rows: &[LawfulRow], semantics: Semantics, span: u32) -> Longest
-    requires some { 0 < length rows.now }
-    requires few { length rows.now ≤ 16 }
-    requires common { Common span (stages_of rows.now) }
+pub(crate) fn longest_path(route: Route, semantics: Semantics, span: u32) -> Longest
+    requires common { Common span (stages_along route) }
     requires short { span ≤ 100_000_000 }
-    ensures figure { Figure semantics (stages_of rows.now) result.delay (shown_predecessor semantics result.origin) (witness_to (stages_of rows.now) result.last) }
-    ensures there { 0 < (route_of (stages_of rows.now)).back (result.last + 1) }
-    ensures early { start_of (last_stage (stages_of rows.now)) result.last < 2 ^ 40 }
+    ensures figure { Figure semantics (stages_along route.entry) result.delay (shown_predecessor semantics result.origin) (witness_to (stages_along route.entry) result.last) }
+    ensures there { 0 < (route_of (stages_along route.entry)).back (result.last + 1) }
+    ensures early { start_of (last_stage (stages_along route.entry)) result.last < 2 ^ 40 }
 {
-    let mut near = route::ahead(rows, 0);
-    let first = route::back(rows, near);
-    let end = last_block(rows, first, span);
-    let mut best = Longest {
-        delay: 0,
-        origin: 0,
-        last: 0,
-    };
-    let mut block = first;
-    let mut before = first;
-    while block <= end {
-        let far = route::ahead(rows, block + 1);
-        if semantics.counts(first, block) {
-            let found = longest_in(rows, semantics, block, before, near, far);
-            if found.delay > best.delay {
-                best = found;
+    let mut block = Block::first(route);
+    // Everything repeats a span after the first block, so later blocks show nothing new.
+    let end = block.begin + route.instances_in(span);
+    let mut best: Option<Longest> = None;
+    while block.begin <= end {
+        if let Some(found) = block.longest(semantics) {
+            if best.is_none_or(|best| found.delay > best.delay) {
+                best = Some(found);
             }
         }
-        before = block;
-        block = route::back(rows, far);
-        near = far;
+        block = block.next();
     }
-    best
+    best.unwrap()
 }

@@ -12,4 +12,4 @@ mod tests;
 
 pub use delay::{Delay, MAX_LENGTH, SearchFault, largest_delay};
 pub use laws::{examples_hold, one_figure};
-pub use semantics::Semantics;
+pub use semantics::{Semantics, UnknownSemantics};

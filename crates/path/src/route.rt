@@ -1,53 +1,116 @@
 // Steps along a whole route: ahead from its first stage to its last, and back.
-ghost use Rattle.std.specs.Prelude.{◌≡◌, ◌+◌, ◌^◌, ◌<◌, ◌≤◌, length, take, drop};
+ghost use Rattle.std.specs.Prelude.{◌≡◌, ℕ, ◌+◌, ◌^◌, ◌<◌, ◌≤◌, length, take, drop, Some, MatchResult, slice_index};
+ghost use Rattle.stage.specs.Periods.{IsMacroPeriod};
 ghost use Rattle.stage.specs.Stages.{start_of};
-ghost use Rattle.path.specs.Given.{stages_of};
+ghost use Rattle.path.specs.declared.delay.TheConstants.{MAX_LENGTH};
+ghost use Rattle.path.specs.Given.{stage_in, stages_of};
+ghost use Rattle.path.specs.Periods.{instances_in};
+ghost use Rattle.path.specs.Refusals.{Refused, cycles_of};
 ghost use Rattle.path.specs.Timed.{first_stage, last_stage};
 ghost use Rattle.path.specs.Steps.{route_of, witness_to};
 
-use crate::hop;
+use crate::delay::{MAX_LENGTH, SearchFault};
+use crate::hop::Hop;
 use stage::LawfulRow;
+use std::array;
 
-// The first instance of the last stage that instance `i` of the first stage leads to.
-pub(crate) fn ahead(rows: &[LawfulRow], i: u64) -> u64
-    requires some { 0 < length rows.now }
-    requires few { length rows.now ≤ 16 }
-    requires early { start_of (first_stage (stages_of rows.now)) i < 2 ^ 36 }
-    ensures { result ≡ (route_of (stages_of rows.now)).ahead i }
-{
-    let mut at = i;
-    for k in 0..rows.len() - 1 {
-        at = hop::ahead(&rows[k], &rows[k + 1], at);
-    }
-    at
+// Stages one after the other, of which each reads the one before it.
+#[derive(Clone, Copy)]
+pub(crate) struct Route<'a> {
+    rows: &'a [LawfulRow],
+    ghost some: { 0 < length rows.now },
+    ghost few: { length rows.now ≤ MAX_LENGTH },
 }
 
-// The first instance of the path that ends at instance `j` of the last stage; there is one.
-pub(crate) fn back(rows: &[LawfulRow], j: u64) -> u64
-    requires some { 0 < length rows.now }
-    requires early { start_of (last_stage (stages_of rows.now)) j < 2 ^ 40 }
-    requires there { 0 < (route_of (stages_of rows.now)).back (j + 1) }
-    ensures { result + 1 ≡ (route_of (stages_of rows.now)).back (j + 1) }
-{
-    let mut at = j;
-    for k in (0..rows.len() - 1).rev() {
-        at = hop::back(&rows[k], &rows[k + 1], at);
-    }
-    at
-}
+impl<'a> Route<'a> {
+    ghost use Rattle.path.specs.Route.{stages_along};
 
-// Writes the path that ends at instance `j` of the last stage into the front of `path`; there is one.
-pub(crate) fn write_path(rows: &[LawfulRow], j: u64, path: &mut [u64])
-    requires some { 0 < length rows.now }
-    requires room { length rows.now ≤ length path.old }
-    requires early { start_of (last_stage (stages_of rows.now)) j < 2 ^ 40 }
-    requires there { 0 < (route_of (stages_of rows.now)).back (j + 1) }
-    ensures written { take (length rows.now) path.new ≡ witness_to (stages_of rows.now) j }
-    ensures rest { drop (length rows.now) path.new ≡ drop (length rows.now) path.old }
-{
-    let last = rows.len() - 1;
-    path[last] = j;
-    for k in (0..last).rev() {
-        path[k] = hop::back(&rows[k], &rows[k + 1], path[k + 1]);
+    // The route along the rows, where there are 1 to `MAX_LENGTH` of them.
+    pub(crate) fn new(rows: &'a [LawfulRow]) -> Result<Route<'a>, SearchFault>
+        ensures { MatchResult result (λ route. stages_along route ≡ stages_of rows.now) (λ fault. (room : ℕ) → Refused fault (stages_of rows.now) room) }
+    {
+        if rows.is_empty() || rows.len() > MAX_LENGTH {
+            return Err(SearchFault::Length);
+        }
+        Ok(Route { rows })
+    }
+
+    pub(crate) fn first(&self) -> &'a LawfulRow
+        ensures { stage_in result.now ≡ first_stage (stages_along self.now) }
+    {
+        &self.rows[0]
+    }
+
+    pub(crate) fn last(&self) -> &'a LawfulRow
+        ensures { stage_in result.now ≡ last_stage (stages_along self.now) }
+    {
+        &self.rows[self.rows.len() - 1]
+    }
+
+    // How many instances of the first stage start in the span.
+    pub(crate) fn instances_in(&self, span: u32) -> u64
+        ensures count { result ≡ instances_in span (first_stage (stages_along self.now)) }
+        ensures small { result < 2 ^ 40 }
+    {
+        let row = self.first().row();
+        (span / row.cycle) as u64 * row.count as u64
+    }
+
+    // The cycle of stage `k`, and 0 past the last one.
+    fn cycle(&self, k: usize) -> u32
+        ensures { result ≡ slice_index (cycles_of (stages_along self.now)) k }
+    {
+        self.rows.get(k).map_or(0, |row| row.row().cycle)
+    }
+
+    // The macro-period of the stages, where they have one.
+    pub(crate) fn macro_period(&self) -> Result<u32, SearchFault>
+        ensures { MatchResult result (λ span. IsMacroPeriod (cycles_of (stages_along self.now)) (Some span)) (λ fault. (room : ℕ) → Refused fault (stages_along self.now) room) }
+    {
+        // an array and no collection, since no call allocates
+        let cycles: [u32; MAX_LENGTH] = array::from_fn(|k| self.cycle(k));
+        stage::macro_period(&cycles[..self.rows.len()]).ok_or(SearchFault::MacroPeriod)
+    }
+
+    // The first instance of the last stage that instance `i` of the first stage leads to.
+    pub(crate) fn ahead(&self, i: u64) -> u64
+        requires { start_of (first_stage (stages_along self.now)) i < 2 ^ 36 }
+        ensures ahead { result ≡ (route_of (stages_along self.now)).ahead i }
+        ensures early { start_of (last_stage (stages_along self.now)) result < 2 ^ 40 }
+    {
+        let mut at = i;
+        for [writer, reader] in self.rows.array_windows::<2>() {
+            at = Hop { writer, reader }.ahead(at);
+        }
+        at
+    }
+
+    // The first instance of the path that ends at instance `j` of the last stage; there is one.
+    pub(crate) fn back(&self, j: u64) -> u64
+        requires early { start_of (last_stage (stages_along self.now)) j < 2 ^ 40 }
+        requires there { 0 < (route_of (stages_along self.now)).back (j + 1) }
+        ensures { result + 1 ≡ (route_of (stages_along self.now)).back (j + 1) }
+    {
+        let mut at = j;
+        for [writer, reader] in self.rows.array_windows::<2>().rev() {
+            at = Hop { writer, reader }.back(at);
+        }
+        at
+    }
+
+    // Writes the path that ends at instance `j` of the last stage into the front of `path`; there is one.
+    pub(crate) fn write_path(&self, j: u64, path: &mut [u64])
+        requires room { length (stages_along self.now) ≤ length path.old }
+        requires early { start_of (last_stage (stages_along self.now)) j < 2 ^ 40 }
+        requires there { 0 < (route_of (stages_along self.now)).back (j + 1) }
+        ensures written { take (length (stages_along self.now)) path.new ≡ witness_to (stages_along self.now) j }
+        ensures rest { drop (length (stages_along self.now)) path.new ≡ drop (length (stages_along self.now)) path.old }
+    {
+        let mut at = j;
+        path[self.rows.len() - 1] = at;
+        for (k, [writer, reader]) in self.rows.array_windows::<2>().enumerate().rev() {
+            at = Hop { writer, reader }.back(at);
+            path[k] = at;
+        }
     }
 }

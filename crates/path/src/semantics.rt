@@ -1,13 +1,16 @@
 // The four ways to count the delays of timed paths.
-ghost use Rattle.std.specs.Prelude.{◌≡◌, ◌<◌, T, MatchOption, ◌≢◌};
-ghost use Rattle.path.specs.declared.semantics.Semantics.{Semantics};
+ghost use Rattle.std.specs.Prelude.{◌≡◌, ◌<◌, Some, codes};
 ghost use Rattle.path.specs.Figures.{shown_predecessor};
-ghost use Rattle.path.specs.Numbering.{semantics_number};
-ghost use Rattle.path.specs.Steps.{Counting, end_in, from_of};
+ghost use Rattle.path.specs.Numbering.{Names, Numbers, semantics_name, semantics_number};
+ghost use Rattle.path.specs.Steps.{end_in, origin_in};
+
+use std::error::Error;
+use std::fmt;
+use std::str::FromStr;
 
 // The first letter says from where a delay is counted: L from the path's first instance, F from the one before it that
 // begins a path. The second says which paths count: L all of them, F those that come first from their first instance.
-#[derive(Clone, Copy, PartialEq, Eq, Debug, Drop)]
+#[derive(Clone, Copy, PartialEq, Eq, Hash, Debug)]
 pub enum Semantics {
     LL,
     LF,
@@ -15,48 +18,86 @@ pub enum Semantics {
     FF,
 }
 
-impl Semantics {
-    // The semantics of number `n`; nothing where none has that number.
-    pub fn from_number(n: u8) -> Option<Semantics>
-        ensures { MatchOption result ((m : Semantics) → semantics_number m ≢ n) (λ m. semantics_number m ≡ n) }
-    {
-        match n {
-            0 => Some(Semantics::LL),
-            1 => Some(Semantics::LF),
-            2 => Some(Semantics::FL),
-            3 => Some(Semantics::FF),
-            _ => None,
+// A number or a name that no semantics has.
+#[derive(Clone, Copy, PartialEq, Eq, Hash, Debug)]
+pub struct UnknownSemantics;
+
+impl TryFrom<u8> for Semantics {
+    type Error = UnknownSemantics;
+
+    ghost try_from_gives = { Numbers };
+
+    fn try_from(number: u8) -> Result<Self, UnknownSemantics> {
+        match number {
+            0 => Ok(Semantics::LL),
+            1 => Ok(Semantics::LF),
+            2 => Ok(Semantics::FL),
+            3 => Ok(Semantics::FF),
+            _ => Err(UnknownSemantics),
         }
     }
+}
 
-    pub fn number(self) -> u8
-        ensures { result ≡ semantics_number self }
-    {
-        match self {
+impl From<Semantics> for u8 {
+    ghost from_gives = { λ semantics number. number ≡ semantics_number semantics };
+
+    fn from(semantics: Semantics) -> u8 {
+        match semantics {
             Semantics::LL => 0,
             Semantics::LF => 1,
             Semantics::FL => 2,
             Semantics::FF => 3,
         }
     }
+}
 
-    // Whether paths of block `block` count, where `first` is the first block.
-    pub(crate) fn counts(self, first: u64, block: u64) -> bool
-        ensures sound { T result → Counting self first block }
-        ensures complete { Counting self first block → T result }
-    {
-        match self {
-            Semantics::LL | Semantics::LF => true,
-            Semantics::FL | Semantics::FF => first < block,
+impl FromStr for Semantics {
+    type Err = UnknownSemantics;
+
+    ghost from_str_gives = { Names };
+
+    fn from_str(name: &str) -> Result<Self, UnknownSemantics> {
+        match name {
+            "LL" => Ok(Semantics::LL),
+            "LF" => Ok(Semantics::LF),
+            "FL" => Ok(Semantics::FL),
+            "FF" => Ok(Semantics::FF),
+            _ => Err(UnknownSemantics),
         }
     }
+}
 
-    // The instance from which delays in block `block` are counted, where `before` is the block before it.
-    pub(crate) fn origin(self, block: u64, before: u64) -> u64
-        ensures { result ≡ from_of self block before }
+impl fmt::Display for Semantics {
+    ghost output = { λ semantics. Some (semantics_name semantics) };
+
+    fn fmt<W: fmt::Write>(&self, f: &mut fmt::Formatter<W>) -> fmt::Result {
+        f.write_str(match self {
+            Semantics::LL => "LL",
+            Semantics::LF => "LF",
+            Semantics::FL => "FL",
+            Semantics::FF => "FF",
+        })
+    }
+}
+
+impl fmt::Display for UnknownSemantics {
+    ghost output = { λ _. Some (codes "a semantics is LL, LF, FL or FF, by number 0 to 3") };
+
+    fn fmt<W: fmt::Write>(&self, f: &mut fmt::Formatter<W>) -> fmt::Result {
+        f.write_str("a semantics is LL, LF, FL or FF, by number 0 to 3")
+    }
+}
+
+impl Error for UnknownSemantics {}
+
+impl Semantics {
+    // The instance from which delays are counted in the block that begins at `begin`, after the one at `before`. There
+    // is none where its paths do not count: a first block has no predecessor.
+    pub(crate) fn origin(self, begin: u64, before: Option<u64>) -> Option<u64>
+        ensures { result ≡ origin_in self begin before }
     {
         match self {
-            Semantics::LL | Semantics::LF => block,
+            Semantics::LL | Semantics::LF => Some(begin),
             Semantics::FL | Semantics::FF => before,
         }
     }

@@ -1,11 +1,14 @@
 // Worked routes, run.
 use crate::{Delay, MAX_LENGTH, SearchFault, Semantics, largest_delay};
 use stage::{LawfulRow, MAX_MARKS, Row};
-use std::fmt::Debug;
+use std::array;
 use std::test::Fail;
 
+// What stands in the buffer before a search.
+const UNTOUCHED: u64 = 77;
+
 // A stage with one mark.
-fn one_mark(cycle: u32, start: u32, length: u32, rank: u8) -> Option<LawfulRow> {
+fn one_mark(cycle: u32, start: u32, length: u32, rank: u8) -> Result<LawfulRow, Fail> {
     let mut starts = [0; MAX_MARKS];
     let mut stops = [0; MAX_MARKS];
     starts[0] = start;
@@ -17,100 +20,105 @@ fn one_mark(cycle: u32, start: u32, length: u32, rank: u8) -> Option<LawfulRow> 
         starts,
         stops,
     })
+    .ok_or_else(|| Fail::new("a row is against the laws"))
 }
 
-fn unlawful() -> Result<(), Fail> {
-    Err(Fail::new("a row is against the laws"))
-}
-
-// A failure that shows both, where they differ.
-fn check_eq<T: PartialEq + Debug + Drop>(found: T, expected: T) -> Result<(), Fail> {
-    if found == expected {
-        return Ok(());
-    }
-    Err(Fail::new(format_args!("{found:?}, and not {expected:?}")))
-}
-
-// The search answers this delay, predecessor and path, and leaves the rest of the buffer.
-fn expect(
+// What the search answers, and the buffer after it.
+fn search(
     rows: &[LawfulRow],
     semantics: Semantics,
-    delay: u64,
-    predecessor: Option<u64>,
-    path: &[u64],
-) -> Result<(), Fail> {
-    let mut witness = [77; MAX_LENGTH];
-    check_eq(
-        largest_delay(rows, semantics, &mut witness)?,
-        Delay { delay, predecessor },
-    )?;
-    for (i, found) in witness.iter().enumerate() {
-        check_eq(*found, if i < path.len() { path[i] } else { 77 })?;
+) -> Result<(Delay, [u64; MAX_LENGTH]), SearchFault> {
+    let mut witness = [UNTOUCHED; MAX_LENGTH];
+    let delay = largest_delay(rows, semantics, &mut witness)?;
+    Ok((delay, witness))
+}
+
+// That answer: a delay, its predecessor, and the path in front of what stood in the buffer.
+fn answer(delay: u64, predecessor: Option<u64>, path: &[u64]) -> (Delay, [u64; MAX_LENGTH]) {
+    let witness = array::from_fn(|k| path.get(k).copied().unwrap_or(UNTOUCHED));
+    (Delay { delay, predecessor }, witness)
+}
+
+#[test]
+fn quick_reader_and_slow_reader(rt: HostRuntime) -> Result<(), Fail> {
+    let slow = one_mark(10_000, 0, 2_000, 5)?;
+    let quick = one_mark(4_000, 0, 500, 1)?;
+    for (semantics, delay, predecessor, path) in [
+        (Semantics::LL, 8_500, None, [0, 2]),
+        (Semantics::LF, 2_500, None, [1, 3]),
+        (Semantics::FL, 18_500, Some(1), [2, 7]),
+        (Semantics::FF, 12_500, Some(0), [1, 3]),
+    ] {
+        assert_eq!(rt;
+            search(&[slow, quick], semantics)?,
+            answer(delay, predecessor, &path)
+        );
+    }
+    for (semantics, delay, predecessor, path) in [
+        (Semantics::LL, 6_000, None, [4, 2]),
+        (Semantics::LF, 6_000, None, [4, 2]),
+        (Semantics::FL, 16_000, Some(4), [7, 3]),
+        (Semantics::FF, 16_000, Some(4), [7, 3]),
+    ] {
+        assert_eq!(rt;
+            search(&[quick, slow], semantics)?,
+            answer(delay, predecessor, &path)
+        );
     }
     Ok(())
 }
 
 #[test]
-fn quick_reader_and_slow_reader() -> Result<(), Fail> {
-    let Some(slow) = one_mark(10_000, 0, 2_000, 5) else {
-        return unlawful();
-    };
-    let Some(quick) = one_mark(4_000, 0, 500, 1) else {
-        return unlawful();
-    };
-    let rows = [slow, quick];
-    expect(&rows, Semantics::LL, 8_500, None, &[0, 2])?;
-    expect(&rows, Semantics::LF, 2_500, None, &[1, 3])?;
-    expect(&rows, Semantics::FL, 18_500, Some(1), &[2, 7])?;
-    expect(&rows, Semantics::FF, 12_500, Some(0), &[1, 3])?;
-    let back = [quick, slow];
-    expect(&back, Semantics::LL, 6_000, None, &[4, 2])?;
-    expect(&back, Semantics::LF, 6_000, None, &[4, 2])?;
-    expect(&back, Semantics::FL, 16_000, Some(4), &[7, 3])?;
-    expect(&back, Semantics::FF, 16_000, Some(4), &[7, 3])
+fn a_stage_alone_and_twice(rt: HostRuntime) -> Result<(), Fail> {
+    let row = one_mark(10_000, 0, 2_000, 5)?;
+    for (semantics, delay, predecessor, path) in [
+        (Semantics::LL, 2_000, None, [0]),
+        (Semantics::LF, 2_000, None, [0]),
+        (Semantics::FL, 12_000, Some(0), [1]),
+        (Semantics::FF, 12_000, Some(0), [1]),
+    ] {
+        assert_eq!(rt;
+            search(&[row], semantics)?,
+            answer(delay, predecessor, &path)
+        );
+    }
+    for (semantics, delay, predecessor, path) in [
+        (Semantics::LL, 12_000, None, [0, 1]),
+        (Semantics::LF, 12_000, None, [0, 1]),
+        (Semantics::FL, 22_000, Some(0), [1, 2]),
+        (Semantics::FF, 22_000, Some(0), [1, 2]),
+    ] {
+        assert_eq!(rt;
+            search(&[row, row], semantics)?,
+            answer(delay, predecessor, &path)
+        );
+    }
+    Ok(())
 }
 
 #[test]
-fn a_stage_alone_and_twice() -> Result<(), Fail> {
-    let Some(row) = one_mark(10_000, 0, 2_000, 5) else {
-        return unlawful();
-    };
-    expect(&[row], Semantics::LL, 2_000, None, &[0])?;
-    expect(&[row], Semantics::LF, 2_000, None, &[0])?;
-    expect(&[row], Semantics::FL, 12_000, Some(0), &[1])?;
-    expect(&[row], Semantics::FF, 12_000, Some(0), &[1])?;
-    expect(&[row, row], Semantics::LL, 12_000, None, &[0, 1])?;
-    expect(&[row, row], Semantics::LF, 12_000, None, &[0, 1])?;
-    expect(&[row, row], Semantics::FL, 22_000, Some(0), &[1, 2])?;
-    expect(&[row, row], Semantics::FF, 22_000, Some(0), &[1, 2])
-}
-
-#[test]
-fn three_stages() -> Result<(), Fail> {
-    let Some(quick) = one_mark(4_000, 0, 500, 9) else {
-        return unlawful();
-    };
-    let Some(middle) = one_mark(10_000, 0, 3_000, 5) else {
-        return unlawful();
-    };
-    let Some(slow) = one_mark(20_000, 0, 5_000, 1) else {
-        return unlawful();
-    };
-    let rows = [quick, middle, slow];
-    expect(&rows, Semantics::LL, 5_000, None, &[0, 0, 0])?;
-    expect(&rows, Semantics::LF, 5_000, None, &[0, 0, 0])?;
-    expect(&rows, Semantics::FL, 25_000, Some(0), &[5, 2, 1])?;
-    expect(&rows, Semantics::FF, 25_000, Some(0), &[5, 2, 1])
+fn three_stages(rt: HostRuntime) -> Result<(), Fail> {
+    let quick = one_mark(4_000, 0, 500, 9)?;
+    let middle = one_mark(10_000, 0, 3_000, 5)?;
+    let slow = one_mark(20_000, 0, 5_000, 1)?;
+    for (semantics, delay, predecessor, path) in [
+        (Semantics::LL, 5_000, None, [0, 0, 0]),
+        (Semantics::LF, 5_000, None, [0, 0, 0]),
+        (Semantics::FL, 25_000, Some(0), [5, 2, 1]),
+        (Semantics::FF, 25_000, Some(0), [5, 2, 1]),
+    ] {
+        assert_eq!(rt;
+            search(&[quick, middle, slow], semantics)?,
+            answer(delay, predecessor, &path)
+        );
+    }
+    Ok(())
 }
 
 #[test]
 fn refusals(rt: HostRuntime) -> Result<(), Fail> {
-    let Some(first) = one_mark(1_000_000, 0, 10, 5) else {
-        return unlawful();
-    };
-    let Some(second) = one_mark(999_999, 0, 10, 5) else {
-        return unlawful();
-    };
+    let first = one_mark(1_000_000, 0, 10, 5)?;
+    let second = one_mark(999_999, 0, 10, 5)?;
     assert_eq!(rt;
         largest_delay(&[], Semantics::LL, &mut []),
         Err(SearchFault::Length)
