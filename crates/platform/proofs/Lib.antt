@@ -1,4 +1,3 @@
-pub mod Found
 pub mod Layers
 pub mod Told
 pub mod Thinning

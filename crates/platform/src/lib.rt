@@ -2,6 +2,7 @@
 #![tactic(auto)]
 
 mod instance;
+pub mod lawful_record;
 pub mod laws;
 pub mod metronome;
 pub mod phase;
@@ -11,9 +12,10 @@ pub mod record;
 mod tests;
 pub mod thin;
 
+pub use lawful_record::{LawfulRecord, RecordFault};
 pub use laws::layer_examples_hold;
 pub use metronome::Metronome;
 pub use phase::Phase;
-pub use platform::{Number, Platform};
+pub use platform::{MAX_NUMBER, Number, Platform};
 pub use record::Record;
 pub use thin::{MAX_EVERY, Thin};
