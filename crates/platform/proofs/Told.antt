@@ -14,10 +14,10 @@ pub told_shape : (s : Stage) (cycle count rank : ℕ) → Some (cycle, count, ra
     → ◌≡◌ {A = ℕ × ℕ × ℕ} (cycle, count, rank) (s.cycle, count_of s, s.rank)
 told_shape s cycle count rank e = cc
 
-pub shaped : (o : Option Stage) (number cycle count rank : ℕ) → Sound number o → Some (cycle, count, rank) ≡ described o → Shaped o cycle count
-shaped None number cycle count rank h e = let never : ◌≡◌ {A = ℕ} 0 1 = cc in absurd (omega arith)
-shaped (Some s) number cycle count rank h e =
-    let same = told_shape s cycle count rank e in
+pub shaped : {o : Option Stage} {number cycle count rank : ℕ} → Sound number o → Some (cycle, count, rank) ≡ described o → Shaped o cycle count
+shaped {o = None} h e = let never : ◌≡◌ {A = ℕ} 0 1 = cc in absurd (omega arith)
+shaped {o = Some s} h e =
+    let same = told_shape s _ _ _ e in
     record { stage = s; present = refl; lawful = h.lawful; cycle_is = ap (λ x. x.0) (sym same); count_is = ap (λ x. x.1) (sym same) }
 
 -- the answer to `mark`, of a stage that is there

@@ -1,13 +1,13 @@
 // Platforms: what a handheld's maker says of its stages, and the profiles that describe one.
 #![tactic(auto)]
 
-mod instance;
 pub mod lawful_record;
 pub mod laws;
 pub mod metronome;
 pub mod phase;
 pub mod platform;
 pub mod record;
+mod stage_below;
 #[cfg(test)]
 mod tests;
 pub mod thin;
