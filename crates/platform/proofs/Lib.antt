@@ -2,4 +2,3 @@ pub mod Layers
 pub mod Told
 pub mod Thinning
 pub mod Phasing
-pub mod Singles
