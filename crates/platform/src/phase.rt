@@ -31,6 +31,7 @@ impl<P: Platform> Platform for Phase<P> {
 
     ghost sound = { λ p n. phased_sound p.shift n (P.Platform.meaning p.below n) (P.Platform.sound p.below n) };
 
+    #[tactic(auto, using(crate::proofs::Phasing::phase_described))]
     fn describe(&self, number: Number) -> Option<(u32, u8, u8)> {
         self.below.describe(number)
     }
