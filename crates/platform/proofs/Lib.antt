@@ -1,4 +1,3 @@
 pub mod Layers
 pub mod Told
-pub mod Thinning
 pub mod Phasing

@@ -42,6 +42,7 @@ impl<P> Thin<P> {
 
 impl<P: Platform> Thin<P> {
     // The stage below, where it is there and can be thinned.
+    #[tactic(auto, unfolding(crate::specs::Thins::thinned))]
     fn stage_below(&self, number: Number) -> Option<StageBelow<'_, P>>
         ensures { MatchOption result (thinned self.now.every self.now.from (P.Platform.meaning self.now.below number) ≡ None) (λ s. (P.Platform.meaning s.platform.now s.number ≡ P.Platform.meaning self.now.below number) × (thinnable self.now.every self.now.from s.cycle ≡ true)) }
     {
@@ -57,6 +58,7 @@ impl<P: Platform> Platform for Thin<P> {
 
     ghost sound = { λ t n. thinned_sound t.every t.from n (P.Platform.meaning t.below n) (P.Platform.sound t.below n) };
 
+    #[tactic(auto, using(crate::specs::LayerSoundness::thin_count), unfolding(crate::specs::Thins::thinned, crate::specs::Thins::thin_stage))]
     fn describe(&self, number: Number) -> Option<(u32, u8, u8)> {
         let Some(stage) = self.stage_below(number) else {
             return None;
@@ -64,6 +66,7 @@ impl<P: Platform> Platform for Thin<P> {
         Some((self.every * stage.cycle, stage.count, stage.rank))
     }
 
+    #[tactic(auto, using(crate::specs::LayerSoundness::thin_count, crate::specs::LayerSoundness::thin_mark), unfolding(crate::specs::Thins::thinned))]
     fn mark(&self, number: Number, a: u8) -> Option<(u32, u32)> {
         let Some(stage) = self.stage_below(number) else {
             return None;
