@@ -36,7 +36,7 @@ mark_is s b m e =
     cc
 
 -- a mark stops at most two cycles after the cycle's beginning
-stop_low : (s : Stage) → Lawful s → (b : ℕ) → b < count_of s → (mark_of s b).1 ≤ 2 * s.cycle
+pub stop_low : (s : Stage) → Lawful s → (b : ℕ) → b < count_of s → (mark_of s b).1 ≤ 2 * s.cycle
 stop_low s l b h =
     let o = in_order s l in
     omega (arith, mark_start s l b h, mark_stop s l b h, l.start_in_cycle b h, o.stop_before_next b, o.next_within_cycle b)

@@ -43,6 +43,7 @@ impl<'a, P: Platform> StageBelow<'a, P> {
     }
 
     // When instance `i` starts and stops; the layers ask for the first 16 cycles.
+    #[tactic(auto, using(crate::proofs::Told::whole_high, crate::proofs::Told::stop_low), unfolding(stage::specs::Stages::start_of, stage::specs::Stages::stop_of))]
     pub fn instance(&self, i: u32) -> (u32, u32)
         requires { i < MAX_EVERY * self.now.count }
         ensures { Some result ≡ instanced (P.Platform.meaning self.now.platform.now self.now.number) i }
