@@ -1,7 +1,7 @@
 -- What a phase layer answers, from what the platform below answers.
 -- Assumes nothing.
 use Rattle.std.proofs.Common.{◌≡◌, ℕ, ◌+◌, ◌-◌, ◌*◌, ◌%◌, ◌<◌, ◌≤◌, Some, None, Option, sym, refl, ap, ◌∙◌, subst, ⊎_elim, arith}
-use Rattle.std.proofs.lemmas.Bool.{cases_order, cond-true, cond-false, lt-ltb, le-ltb}
+use Rattle.std.proofs.lemmas.Bool.{cases_lt, cond-true, cond-false, lt-ltb, le-ltb}
 use Rattle.stage.specs.Stages.{Stage, Lawful, count_of, mark_of, start_of, stop_of}
 use Rattle.stage.proofs.Order.{in_order}
 use Rattle.platform.specs.Platforms.{described, marked}
@@ -15,56 +15,15 @@ unfolding phase_stage
 phase_described d None = refl
 phase_described d (Some s) = ap (λ k. Some (s.cycle, k, s.rank)) (sym (phase_count d s))
 
--- the search by halving begins at no mark and at all
-pub halved_first : (s : Stage) (end high : ℕ) → count_of s ≤ high → Halved s end 0 high
-halved_first s end high h = record { early = λ a k. absurd (omega arith); late = λ k. absurd (omega arith) }
-
-module _ (s : Stage) (l : Lawful s) (end low high : ℕ) (h : Halved s end low high) where
-  marks_rise : (a b : ℕ) → a ≤ b → b < count_of s → (mark_of s a).0 ≤ (mark_of s b).0
-  marks_rise a b up k = omega (arith, mark_start s l a (omega arith), mark_start s l b k, starts_not_fall s l a b up)
-
-  pub halved_up : (middle : ℕ) → middle < count_of s → (mark_of s middle).0 < end → Halved s end (middle + 1) high
-  halved_up middle k e = record { early = λ a up. omega (arith, marks_rise a middle (omega arith) k); late = h.late }
-
-  pub halved_down : (middle : ℕ) → end ≤ (mark_of s middle).0 → Halved s end low middle
-  halved_down middle e = record { early = h.early; late = λ k. e }
-
--- and ends where the two meet
-pub halved_done : (s : Stage) (end n : ℕ) → Halved s end n n → n ≤ count_of s → n ≡ before end s.marks
-halved_done s end n h within =
-    ⊎_elim (λ e. e)
-    (⊎_elim
-    (λ k. omega (arith, before_early end s.marks n k, h.late (omega (arith, before_within end s.marks))))
-    (λ k. omega (arith, h.early (before end s.marks) k, before_stops end s.marks (omega arith))))
-    (cases_order n (before end s.marks))
-
--- the turns of that search over a platform
-module _ (o : Option Stage) (cycle count : ℕ) (p : Shaped o cycle count) (end : ℕ) where
-  abbrev pub HalvedIn : ℕ → ℕ → Type 0
-  HalvedIn low high = (s : Stage) → o ≡ Some s → Halved s end low high
-
-  of_stage : (low high : ℕ) → Halved p.stage end low high → HalvedIn low high
-  of_stage low high h s e =
-      let both : Some p.stage ≡ Some s = sym p.present ∙ e in
-      let same : p.stage ≡ s = cc in
-      subst (λ x. Halved x end low high) same h
-
-  module _ (low high middle start stop : ℕ) (h : HalvedIn low high) (e : Some (start, stop) ≡ marked o middle) where
-    pub search_up : start < end → HalvedIn (middle + 1) high
-    search_up k =
-        let mark = told o cycle count p middle start stop e in
-        of_stage (middle + 1) high
-        (halved_up p.stage p.lawful end low high (h p.stage p.present) middle (omega (arith, p.count_is)) (omega arith))
-
-    pub search_down : end ≤ start → HalvedIn low middle
-    search_down k =
-        let mark = told o cycle count p middle start stop e in
-        of_stage low middle (halved_down p.stage p.lawful end low high (h p.stage p.present) middle (omega arith))
-
-  pub search_done : (low high : ℕ) → low ≤ high → high ≤ count → high ≤ low → HalvedIn low high → low ≡ marks_before end o
-  search_done low high up within met h =
-      let at : Halved p.stage end low low = subst (Halved p.stage end low) (omega arith) (h p.stage p.present) in
-      halved_done p.stage end low at (omega (arith, p.count_is)) ∙ sym (ap (marks_before end) p.present)
+-- a mark that starts before `end` is among the marks before the first that does not
+pub before_covers : (s : Stage) → Lawful s → (end a : ℕ) → a < count_of s → (mark_of s a).0 < end → a < before end s.marks
+before_covers s l end a h e =
+    let first : ℕ = before end s.marks in
+    ⊎_elim (λ k. k)
+    (λ k.
+    let up = starts_not_fall s l first a k in
+    omega (arith, before_stops end s.marks (omega arith), mark_start s l first (omega arith), mark_start s l a h))
+    (cases_lt a first)
 
 -- where the instance below stands that becomes a mark
 pub record Placed (cycle shift start stop : ℕ) : Type 0 where

@@ -55,6 +55,7 @@ impl<'a, P: Platform> StageBelow<'a, P> {
     }
 
     // How many marks come before the first that starts at `end` or later, by halving: starts rise.
+    #[tactic(auto, using(crate::specs::LayerSoundness::before_within, crate::specs::LayerSoundness::before_early, crate::proofs::Phasing::before_covers))]
     pub fn marks_before(&self, end: u32) -> u8
         ensures { result ≡ marks_before end (P.Platform.meaning self.now.platform.now self.now.number) }
     {
