@@ -187,21 +187,15 @@ module _ (d : ℕ) (s : Stage) (l : Lawful s) where
       omega (arith, starts_not_fall s l (staying d s) i h)
 
   -- a count of instances later the marks leave the next cycle too
-  pub remains : (a : ℕ) → a < count_of s → start_of s (staying d s + a) + d % s.cycle < s.cycle + s.cycle
-  remains a h =
+  pub remains : (i : ℕ) → i < staying d s + count_of s → start_of s i + d % s.cycle < s.cycle + s.cycle
+  remains i h =
       ⊎_elim
-      (λ k. omega (arith, shift_low, mark_start s l (staying d s + a) k, l.start_in_cycle (staying d s + a) k))
+      (λ k. omega (arith, shift_low, mark_start s l i k, l.start_in_cycle i k))
       (λ k.
-      let b : staying d s + a - count_of s < staying d s = omega arith in
-      let at : start_of s (staying d s + a) ≡ start_of s (staying d s + a - count_of s) + s.cycle =
-      subst (λ i. start_of s i ≡ start_of s (staying d s + a - count_of s) + s.cycle) (omega arith) (start_next (staying d s + a - count_of s)) in
-      omega (
-        arith,
-        staying_within,
-        mark_start s l (staying d s + a - count_of s) (omega (arith, staying_within)),
-        before_early (s.cycle - d % s.cycle) s.marks (staying d s + a - count_of s) b,
-      ))
-      (cases_lt (staying d s + a) (count_of s))
+      let b : ℕ = i - count_of s in
+      let at : start_of s i ≡ start_of s b + s.cycle = subst (λ j. start_of s j ≡ start_of s b + s.cycle) (omega arith) (start_next b) in
+      omega (arith, staying_within, mark_start s l b (omega (arith, staying_within)), before_early (s.cycle - d % s.cycle) s.marks b (omega arith)))
+      (cases_lt i (count_of s))
 
   phase_last : (mark_of (phase_stage d s) (count_of s - 1)).1 ≤ s.cycle + (mark_of (phase_stage d s) 0).0
   phase_last =
@@ -228,7 +222,7 @@ module _ (d : ℕ) (s : Stage) (l : Lawful s) where
         rank_high = l.rank_high;
         start_in_cycle = λ a h.
             let h' : a < count_of s = omega arith in
-            omega (arith, phase_start d s a h', leaves (staying d s + a) (omega arith), remains a h');
+            omega (arith, phase_start d s a h', leaves (staying d s + a) (omega arith), remains (staying d s + a) (omega arith));
         stop_after_start = λ a h.
             let h' : a < count_of s = omega arith in
             omega (arith, phase_start d s a h', phase_stop d s a h', leaves (staying d s + a) (omega arith), (in_order s l).start_before_stop (staying d s + a));
