@@ -1,14 +1,13 @@
 -- What a phase layer answers, from what the platform below answers.
 -- Assumes nothing.
-use Rattle.std.proofs.Common.{◌≡◌, ℕ, ◌+◌, ◌-◌, ◌*◌, ◌%◌, ◌<◌, ◌≤◌, Some, None, Option, sym, refl, ap, ◌∙◌, subst, ⊎_elim, arith}
-use Rattle.std.proofs.lemmas.Bool.{cases_lt, cond-true, cond-false, lt-ltb, le-ltb}
-use Rattle.stage.specs.Stages.{Stage, Lawful, count_of, mark_of, start_of, stop_of}
+use Rattle.std.proofs.Common.{◌≡◌, ℕ, ◌+◌, ◌-◌, ◌%◌, ◌<◌, ◌≤◌, Some, None, Option, sym, refl, ap, ⊎_elim, arith}
+use Rattle.std.proofs.lemmas.Bool.{cases_lt}
+use Rattle.stage.specs.Stages.{Stage, Lawful, count_of, mark_of}
 use Rattle.stage.proofs.Order.{in_order}
-use Rattle.platform.specs.Platforms.{described, marked}
-use Rattle.platform.specs.Layers.{Shaped, Halved, instanced, marks_before}
-use Rattle.platform.specs.Phases.{before, staying, moved, phase_stage, phased}
-use Rattle.platform.specs.LayerSoundness.{mark_start, starts_not_fall, before_within, before_early, before_stops, phase_count, phase_mark, leaves, remains, staying_within}
-use Rattle.platform.proofs.Told.{told}
+use Rattle.platform.specs.Platforms.{described}
+use Rattle.platform.specs.Layers.{Shaped, instanced, marks_before}
+use Rattle.platform.specs.Phases.{before, phase_stage, phased}
+use Rattle.platform.specs.LayerSoundness.{mark_start, starts_not_fall, before_stops, phase_count, leaves, remains, staying_within}
 
 pub phase_described : (d : ℕ) (o : Option Stage) → described o ≡ described (phased d o)
 unfolding phase_stage
