@@ -1,6 +1,3 @@
-pub mod Found
 pub mod Layers
 pub mod Told
-pub mod Thinning
 pub mod Phasing
-pub mod Singles

@@ -1,18 +1,19 @@
 -- The layers' proofs that they are sound where the platform below is.
 -- Assumes nothing.
-use Rattle.std.specs.Prelude.{◌≡◌, ℕ, zero, suc, ◌+◌, ◌-◌, ◌*◌, ◌%◌, ◌<◌, ◌≤◌, true, List, [], ◌∷◌, length, IfSome, Some, None, Option, nat_le, nat_lt, slice_index_or, refl}
+use Rattle.std.specs.Prelude.{◌≡◌, ℕ, zero, suc, ◌+◌, ◌-◌, ◌*◌, ◌%◌, ◌<◌, ◌≤◌, List, [], ◌∷◌, length, Some, None, Option, slice_index_or, refl}
 use Rattle.std.proofs.Common.{ap, subst, ⊎_elim, mod-lt, div-lt_iff_lt-mul}
 use Rattle.std.proofs.Math.Nat.{mul-le-mul_left, add-mul-div_right, add-mul-mod_self_right}
 use native.Mathlib.Omega.{arith}
 use Rattle.std.proofs.Math.Arith.{digits_lt}
 use Rattle.std.proofs.lemmas.List.FromFn.{length-map-range_with_len, get_or-map-range_with_len}
-use Rattle.std.proofs.lemmas.Bool.{and_parts, leb-true, ltb-true, ltb-false, cases_lt, cases_order, cond_both}
+use Rattle.std.proofs.lemmas.Bool.Decides.{nat_tests}
+use Rattle.std.proofs.lemmas.Bool.{cases_lt}
 use Rattle.stage.specs.Stages.{Stage, Lawful, count_of, mark_of, start_of, stop_of}
 use Rattle.stage.specs.Instances.{InOrder}
 use Rattle.stage.proofs.Order.{in_order, start_at, stop_at}
 use Rattle.platform.specs.Platforms.{Sound}
 use Rattle.platform.specs.Phases.{before, staying, moved, phase_stage, phased}
-use Rattle.platform.specs.Thins.{thin_stage, thinnable, thinned}
+use Rattle.platform.specs.Thins.{thin_stage, thinned}
 
 module _ (n r : ℕ) (s : Stage) where
   pub thin_count : count_of (thin_stage n r s) ≡ count_of s
@@ -50,7 +51,7 @@ module _ (s : Stage) (l : Lawful s) where
 
   pub starts_not_fall : (i j : ℕ) → i ≤ j → start_of s i ≤ start_of s j
   starts_not_fall i j h =
-      ⊎_elim (λ e. rw e (omega arith)) (λ k. ⊎_elim (λ up. omega (arith, order.starts_rise i j up)) (λ down. omega arith) k) (cases_order i j)
+      grind (arith, order.starts_rise i j)
 
   pub stop_before_later : (i j : ℕ) → i < j → stop_of s i ≤ start_of s j
   stop_before_later i j h = omega (arith, order.stop_before_next i, starts_not_fall (i + 1) j (omega arith))
@@ -65,90 +66,82 @@ module _ (s : Stage) (l : Lawful s) where
       let at : stop_of s (0 * count_of s + a) ≡ (mark_of s a).1 = omega (arith, stop_at s 0 a h) in
       subst (λ i. stop_of s i ≡ (mark_of s a).1) (omega arith) at
 
-module _ (n r : ℕ) (s : Stage) (l : Lawful s) (some : 1 ≤ n) (below : r < n) (fits : n * s.cycle ≤ 100_000_000) where
-  -- the instances below of two marks, one after the other
-  thin_rises : (a b : ℕ) → a < b → n * a + r < n * b
-  thin_rises a b h = omega (arith, mul-le-mul_left n h)
+-- The marks of t are instances of s, in order, each moved by `later` and back by `earlier`; m cycles of s make one of t.
+record Drawn (s t : Stage) (m : ℕ) (at : ℕ → ℕ) (later earlier : ℕ) : Type 0 where
+  rises : (a : ℕ) → at a < at (a + 1)
+  comes_round : (a : ℕ) → a < count_of s → at a < at 0 + m * count_of s
+  cycles : t.cycle ≡ m * s.cycle
+  same_rank : t.rank ≡ s.rank
+  same_count : count_of t ≡ count_of s
+  starts : (a : ℕ) → a < count_of s → (mark_of t a).0 + earlier ≡ start_of s (at a) + later
+  stops : (a : ℕ) → a < count_of s → (mark_of t a).1 + earlier ≡ stop_of s (at a) + later
+  in_cycle : (a : ℕ) → a < count_of s → (mark_of t a).0 < t.cycle
 
-  thin_last : (mark_of (thin_stage n r s) (count_of s - 1)).1 ≤ n * s.cycle + (mark_of (thin_stage n r s) 0).0
-  thin_last =
-      let k = l.count_low in
-      let up : n * (count_of s - 1) + r < n * count_of s = thin_rises (count_of s - 1) (count_of s) (omega arith) in
-      let last = stop_before_later s l (n * (count_of s - 1) + r) (n * 0 + r + n * count_of s) (omega arith) in
-      omega (arith, thin_stop n r s (count_of s - 1) (omega arith), thin_start n r s 0 (omega arith), start_later s l n (n * 0 + r))
+module _ (s t : Stage) (l : Lawful s) (m : ℕ) (at : ℕ → ℕ) (later earlier : ℕ) (some : 1 ≤ m) (fits : m * s.cycle ≤ 100_000_000)
+    (d : Drawn s t m at later earlier) where
+  drawn_last : (mark_of t (count_of s - 1)).1 ≤ t.cycle + (mark_of t 0).0
+  drawn_last =
+      let low = l.count_low in
+      let last : ℕ = count_of s - 1 in
+      let inside : last < count_of s = omega arith in
+      let order = stop_before_later s l (at last) (at 0 + m * count_of s) (d.comes_round last inside) in
+      omega (arith, d.cycles, d.stops last inside, d.starts 0 low, start_later s l m (at 0))
 
-  pub thin_lawful : Lawful (thin_stage n r s)
-  unfolding thin_stage
-  thin_lawful =
-      let k = thin_count n r s in
+  drawn_lawful : Lawful t
+  drawn_lawful =
+      let k = d.same_count in
       record {
-        cycle_low = omega (arith, l.cycle_low, mul-le-mul_left n l.cycle_low);
-        cycle_high = fits;
+        cycle_low = omega (arith, d.cycles, l.cycle_low, mul-le-mul_left m l.cycle_low);
+        cycle_high = omega (arith, d.cycles);
         count_low = omega (arith, l.count_low);
         count_high = omega (arith, l.count_high);
-        rank_high = l.rank_high;
-        start_in_cycle = λ a h.
-            let h' : a < count_of s = omega arith in
-            rw (thin_start n r s a h') (start_before_cycle s l n (n * a + r) (omega (arith, thin_rises a (count_of s) h')));
+        rank_high = omega (arith, d.same_rank, l.rank_high);
+        start_in_cycle = λ a h. d.in_cycle a (omega arith);
         stop_after_start = λ a h.
-            let h' : a < count_of s = omega arith in
-            rw (thin_start n r s a h', thin_stop n r s a h') ((in_order s l).start_before_stop (n * a + r));
+            omega (arith, d.starts a (omega arith), d.stops a (omega arith), (order s l).start_before_stop (at a));
         start_after_stop = λ a h.
-            let h' : a + 1 < count_of s = omega arith in
-            let up : n * a + r < n * (a + 1) + r = omega (arith, thin_rises a (a + 1) (omega arith)) in
-            rw (thin_stop n r s a (omega arith), thin_start n r s (a + 1) h') (stop_before_later s l (n * a + r) (n * (a + 1) + r) up);
-        last_stop_in_time = rw k thin_last;
+            omega (arith, d.stops a (omega arith), d.starts (a + 1) (omega arith), stop_before_later s l (at a) (at (a + 1)) (d.rises a));
+        last_stop_in_time = rw k drawn_last;
       }
 
--- the parts of the test
-pub record Thinnable (n r cycle : ℕ) : Type 0 where
-  pub some : 1 ≤ n
-  pub few : n ≤ 16
-  pub below : r < n
-  pub fits : n * cycle ≤ 100_000_000
-
-pub thinnable_parts : (n r cycle : ℕ) → thinnable n r cycle ≡ true → Thinnable n r cycle
-thinnable_parts n r cycle h =
-    let p = and_parts (nat_le 1 n) _ h in
-    let q = and_parts (nat_le n 16) _ p.1 in
-    let o = and_parts (nat_lt r n) _ q.1 in
-    record { some = leb-true _ _ p.0; few = leb-true _ _ q.0; below = ltb-true _ _ o.0; fits = leb-true _ _ o.1 }
+pub thin_lawful : (n r : ℕ) (s : Stage) → Lawful s → 1 ≤ n → r < n → n * s.cycle ≤ 100_000_000 → Lawful (thin_stage n r s)
+unfolding thin_stage
+thin_lawful n r s l some below fits =
+    let within : (a : ℕ) → a < count_of s → n * a + r < n * count_of s = λ a h. omega (arith, mul-le-mul_left n h) in
+    drawn_lawful s (thin_stage n r s) l n (λ a. n * a + r) 0 0 some fits
+    record {
+      rises = λ a. omega arith;
+      comes_round = λ a h. omega (arith, within a h);
+      cycles = refl;
+      same_rank = refl;
+      same_count = thin_count n r s;
+      starts = λ a h. omega (arith, thin_start n r s a h);
+      stops = λ a h. omega (arith, thin_stop n r s a h);
+      in_cycle = λ a h. rw (thin_start n r s a h) (start_before_cycle s l n (n * a + r) (within a h));
+    }
 
 pub thinned_sound : (n r number : ℕ) (o : Option Stage) → Sound number o → Sound number (thinned n r o)
 unfolding thinned
 thinned_sound n r number None h = record { lawful = tt; absent_above = λ k. refl }
 thinned_sound n r number (Some s) h =
-    record {
-      lawful = cond_both (thinnable n r s.cycle) _ None (λ o. IfSome o Lawful)
-          (λ e. let p = thinnable_parts n r s.cycle e in thin_lawful n r s h.lawful p.some p.below p.fits)
-          (λ e. tt);
-      absent_above = λ k. let never : Some s ≡ None = h.absent_above k in cc;
-    }
+    record { lawful = grind (arith, nat_tests, thin_lawful n r s h.lawful); absent_above = λ k. grind (arith, h.absent_above k) }
 
 -- the marks before the first that starts at `end` or later
 pub before_within : (end : ℕ) (ms : List (ℕ × ℕ)) → before end ms ≤ length ms
 unfolding before
 before_within end [] = omega arith
-before_within end (m ∷ ms) =
-    cond_both (nat_lt m.0 end) (suc (before end ms)) 0 (λ w. w ≤ suc (length ms))
-    (λ e. omega (arith, before_within end ms)) (λ e. omega arith)
+before_within end (m ∷ ms) = grind (arith, nat_tests, before_within end ms)
 
 pub before_early : (end : ℕ) (ms : List (ℕ × ℕ)) (a : ℕ) → a < before end ms → (slice_index_or ms a (0, 0)).0 < end
 unfolding before
-before_early end [] a h = absurd (omega arith)
-before_early end (m ∷ ms) zero h =
-    cond_both (nat_lt m.0 end) (suc (before end ms)) 0 (λ w. 0 < w → m.0 < end)
-    (λ e k. ltb-true _ _ e) (λ e k. absurd (omega arith)) h
-before_early end (m ∷ ms) (suc a) h =
-    cond_both (nat_lt m.0 end) (suc (before end ms)) 0 (λ w. suc a < w → (slice_index_or ms a (0, 0)).0 < end)
-    (λ e k. before_early end ms a (omega arith)) (λ e k. absurd (omega arith)) h
+before_early end [] a h = omega arith
+before_early end (m ∷ ms) zero h = grind (arith, nat_tests)
+before_early end (m ∷ ms) (suc a) h = grind (arith, nat_tests, before_early end ms a)
 
 pub before_stops : (end : ℕ) (ms : List (ℕ × ℕ)) → before end ms < length ms → end ≤ (slice_index_or ms (before end ms) (0, 0)).0
 unfolding before
-before_stops end [] h = absurd (omega arith)
-before_stops end (m ∷ ms) h =
-    cond_both (nat_lt m.0 end) (suc (before end ms)) 0 (λ w. w < suc (length ms) → end ≤ (slice_index_or (m ∷ ms) w (0, 0)).0)
-    (λ e k. before_stops end ms (omega arith)) (λ e k. ltb-false _ _ e) h
+before_stops end [] h = omega arith
+before_stops end (m ∷ ms) h = grind (arith, nat_tests, before_stops end ms)
 
 module _ (d : ℕ) (s : Stage) where
   pub phase_count : count_of (phase_stage d s) ≡ count_of s
@@ -187,60 +180,31 @@ module _ (d : ℕ) (s : Stage) (l : Lawful s) where
       omega (arith, starts_not_fall s l (staying d s) i h)
 
   -- a count of instances later the marks leave the next cycle too
-  pub remains : (a : ℕ) → a < count_of s → start_of s (staying d s + a) + d % s.cycle < s.cycle + s.cycle
-  remains a h =
+  pub remains : (i : ℕ) → i < staying d s + count_of s → start_of s i + d % s.cycle < s.cycle + s.cycle
+  remains i h =
       ⊎_elim
-      (λ k. omega (arith, shift_low, mark_start s l (staying d s + a) k, l.start_in_cycle (staying d s + a) k))
+      (λ k. omega (arith, shift_low, mark_start s l i k, l.start_in_cycle i k))
       (λ k.
-      let b : staying d s + a - count_of s < staying d s = omega arith in
-      let at : start_of s (staying d s + a) ≡ start_of s (staying d s + a - count_of s) + s.cycle =
-      subst (λ i. start_of s i ≡ start_of s (staying d s + a - count_of s) + s.cycle) (omega arith) (start_next (staying d s + a - count_of s)) in
-      omega (
-        arith,
-        staying_within,
-        mark_start s l (staying d s + a - count_of s) (omega (arith, staying_within)),
-        before_early (s.cycle - d % s.cycle) s.marks (staying d s + a - count_of s) b,
-      ))
-      (cases_lt (staying d s + a) (count_of s))
-
-  phase_last : (mark_of (phase_stage d s) (count_of s - 1)).1 ≤ s.cycle + (mark_of (phase_stage d s) 0).0
-  phase_last =
-      let k = l.count_low in
-      omega (
-        arith,
-        phase_stop d s (count_of s - 1) (omega arith),
-        phase_start d s 0 k,
-        leaves (staying d s + 0) (omega arith),
-        stop_before_later s l (staying d s + (count_of s - 1)) (staying d s + 0 + count_of s) (omega arith),
-        start_next (staying d s + 0),
-      )
+      let b : ℕ = i - count_of s in
+      let at : start_of s i ≡ start_of s b + s.cycle = subst (λ j. start_of s j ≡ start_of s b + s.cycle) (omega arith) (start_next b) in
+      omega (arith, staying_within, mark_start s l b (omega (arith, staying_within)), before_early (s.cycle - d % s.cycle) s.marks b (omega arith)))
+      (cases_lt i (count_of s))
 
   pub phase_lawful : Lawful (phase_stage d s)
   unfolding phase_stage
   phase_lawful =
-      let k = phase_count d s in
-      let w = staying_within in
+      drawn_lawful s (phase_stage d s) l 1 (λ a. staying d s + a) (d % s.cycle) s.cycle (omega arith) (omega (arith, l.cycle_high))
       record {
-        cycle_low = l.cycle_low;
-        cycle_high = l.cycle_high;
-        count_low = omega (arith, l.count_low);
-        count_high = omega (arith, l.count_high);
-        rank_high = l.rank_high;
-        start_in_cycle = λ a h.
-            let h' : a < count_of s = omega arith in
-            omega (arith, phase_start d s a h', leaves (staying d s + a) (omega arith), remains a h');
-        stop_after_start = λ a h.
-            let h' : a < count_of s = omega arith in
-            omega (arith, phase_start d s a h', phase_stop d s a h', leaves (staying d s + a) (omega arith), (in_order s l).start_before_stop (staying d s + a));
-        start_after_stop = λ a h.
-            let h' : a + 1 < count_of s = omega arith in
-            omega (
-              arith,
-              phase_stop d s a (omega arith),
-              phase_start d s (a + 1) h',
-              stop_before_later s l (staying d s + a) (staying d s + (a + 1)) (omega arith),
-            );
-        last_stop_in_time = rw k phase_last;
+        rises = λ a. omega arith;
+        comes_round = λ a h. omega arith;
+        cycles = omega arith;
+        same_rank = refl;
+        same_count = phase_count d s;
+        starts = λ a h. omega (arith, phase_start d s a h, leaves (staying d s + a) (omega arith));
+        stops = λ a h.
+            omega (arith, phase_stop d s a h, leaves (staying d s + a) (omega arith), (in_order s l).start_before_stop (staying d s + a));
+        in_cycle = λ a h.
+            omega (arith, phase_start d s a h, leaves (staying d s + a) (omega arith), remains (staying d s + a) (omega arith));
       }
 
 pub phased_sound : (d number : ℕ) (o : Option Stage) → Sound number o → Sound number (phased d o)
@@ -248,5 +212,5 @@ phased_sound d number None h = record { lawful = tt; absent_above = λ k. refl }
 phased_sound d number (Some s) h =
     record {
       lawful = phase_lawful d s h.lawful;
-      absent_above = λ k. let never : Some s ≡ None = h.absent_above k in cc;
+      absent_above = λ k. grind (arith, h.absent_above k);
     }

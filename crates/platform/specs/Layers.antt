@@ -1,8 +1,8 @@
 -- What a layer knows of a stage below, once that stage is described.
 -- Assumes nothing.
-use Rattle.std.specs.Prelude.{◌≡◌, ℕ, ◌<◌, ◌≤◌, Some, None, Option}
+use Rattle.std.specs.Prelude.{◌≡◌, ℕ, Some, None, Option}
 use Rattle.std.specs.Option.{option_map}
-use Rattle.stage.specs.Stages.{Stage, Lawful, count_of, mark_of, start_of, stop_of}
+use Rattle.stage.specs.Stages.{Stage, Lawful, count_of, start_of, stop_of}
 use Rattle.platform.specs.Phases.{before}
 
 -- the stage is there, keeps the laws, and has this cycle and count
@@ -21,8 +21,3 @@ instanced o i = option_map (λ s. (start_of s i, stop_of s i)) o
 abbrev pub marks_before : ℕ → Option Stage → ℕ
 marks_before end None = 0
 marks_before end (Some s) = before end s.marks
-
--- the marks below `low` start before `end`, and mark `high` does not
-pub record Halved (s : Stage) (end low high : ℕ) : Type 0 where
-  pub early : (a : ℕ) → a < low → (mark_of s a).0 < end
-  pub late : high < count_of s → end ≤ (mark_of s high).0

@@ -1,5 +1,6 @@
 pub mod Platforms
 pub mod Records
+pub mod LawfulRecords
 pub mod Soundness
 pub mod Phases
 pub mod Thins

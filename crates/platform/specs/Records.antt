@@ -1,6 +1,7 @@
 -- A record of period, offset, response and rank, and the stage that it means.
 -- Assumes nothing.
-use Rattle.std.specs.Prelude.{ℕ, ◌+◌, Bool, cond, ◌&&◌, List, [], ◌∷◌, Some, None, Option, nat_le, nat_lt}
+use Rattle.std.specs.Prelude.{ℕ, ◌+◌, Bool, cond, ◌&&◌, List, [], ◌∷◌, ◌++◌, Some, None, Option, nat_le, nat_lt, codes}
+use Rattle.std.specs.Fmt.{decimal}
 use Rattle.std.specs.Option.{option_map}
 use Rattle.std.specs.List.{slice_get}
 use Rattle.stage.specs.Stages.{Stage}
@@ -21,6 +22,12 @@ response_in_range r = nat_lt 0 r.response && nat_le r.response r.period
 -- a record within all limits; a rank is a byte
 abbrev pub in_range : Record → Bool
 in_range r = period_in_range r && (offset_in_range r && (response_in_range r && nat_le r.rank 255))
+
+-- a record in words
+abbrev pub record_text : Record → List ℕ
+record_text r =
+    codes "period " ++ decimal r.period ++ codes " offset " ++ decimal r.offset ++ codes " response " ++ decimal r.response
+    ++ codes " rank " ++ decimal r.rank
 
 -- The stage has the period as its cycle and one mark, which starts at the offset and stops a response later.
 abbrev pub record_stage : Record → Stage

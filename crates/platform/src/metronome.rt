@@ -1,9 +1,10 @@
 // The metronome: a platform on a list of records.
-ghost use Rattle.std.specs.Prelude.{◌≡◌};
+ghost use Rattle.std.specs.Prelude.{◌≡◌, MatchOption};
 ghost use Rattle.platform.specs.Records.{metronome_record, metronome_stage};
 ghost use Rattle.platform.specs.Soundness.{metronome_sound};
 
-use crate::platform::{Number, Platform};
+use crate::lawful_record::LawfulRecord;
+use crate::platform::{MAX_NUMBER, Number, Platform};
 use crate::record::Record;
 
 // Stage p is record p of the lent list; a record outside the limits is absent.
@@ -20,18 +21,15 @@ impl<'a> Metronome<'a> {
     }
 
     // The record of a number that has a stage.
-    fn record(&self, number: Number) -> Option<Record>
-        ensures { result ≡ metronome_record self.now.records.now number }
+    #[tactic(auto, unfolding(crate::specs::Records::metronome_record))]
+    fn record(&self, number: Number) -> Option<LawfulRecord>
+        ensures { MatchOption result (metronome_record self.now.records.now number ≡ None) (λ l. metronome_record self.now.records.now number ≡ Some l.record) }
     {
-        if number >= 128 || number as usize >= self.records.len() {
+        if number > MAX_NUMBER {
             return None;
         }
-        let record = self.records[number as usize];
-        if record.is_in_range() {
-            Some(record)
-        } else {
-            None
-        }
+        let record = *self.records.get(usize::from(number))?;
+        LawfulRecord::try_from(record).ok()
     }
 }
 
@@ -41,20 +39,10 @@ impl<'a> Platform for Metronome<'a> {
     ghost sound = { λ m n. metronome_sound m.records.now n };
 
     fn describe(&self, number: Number) -> Option<(u32, u8, u8)> {
-        let Some(record) = self.record(number) else {
-            return None;
-        };
-        Some((record.period, 1, record.rank))
+        self.record(number).map(LawfulRecord::describe)
     }
 
     fn mark(&self, number: Number, a: u8) -> Option<(u32, u32)> {
-        let Some(record) = self.record(number) else {
-            return None;
-        };
-        if a == 0 {
-            Some((record.offset, record.offset + record.response))
-        } else {
-            None
-        }
+        self.record(number)?.mark(a)
     }
 }

@@ -1,11 +1,10 @@
 // A layer that moves every stage later within its cycle.
-ghost use Rattle.std.specs.Prelude.{◌≡◌, ◌-◌, ◌<◌};
-ghost use Rattle.platform.specs.Layers.{Shaped, marks_before};
+ghost use Rattle.std.specs.Prelude.{◌≡◌};
 ghost use Rattle.platform.specs.Phases.{EveryPhase, phased};
 ghost use Rattle.platform.specs.LayerSoundness.{phased_sound};
 
-use crate::instance::instance;
 use crate::platform::{Number, Platform};
+use crate::stage_below::StageBelow;
 
 // Everything happens `shift` microseconds later than below, in each cycle.
 #[derive(Clone, Copy)]
@@ -14,32 +13,10 @@ pub struct Phase<P> {
     shift: u32,
 }
 
-// How many marks still start in the cycle when they are moved by `moved`, by halving: starts rise.
-fn staying<P: Platform>(below: &P, number: Number, cycle: u32, count: u8, moved: u32) -> u8
-    requires shape { Shaped (P.Platform.meaning below.now number) cycle count }
-    requires within { moved < cycle }
-    ensures { result ≡ marks_before (cycle - moved) (P.Platform.meaning below.now number) }
-{
-    let end = cycle - moved;
-    let mut low = 0;
-    let mut high = count;
-    while low < high {
-        let middle = (low + high) / 2;
-        let Some((start, _)) = below.mark(number, middle) else {
-            return low;
-        };
-        if start < end {
-            low = middle + 1;
-        } else {
-            high = middle;
-        }
-    }
-    low
-}
-
 impl<P> Phase<P> {
     // A phase on a platform. Of every lawful stage it moves each start by its shift, round the cycle, and keeps the
     // lengths.
+    #[tactic(auto, using(crate::proofs::Layers::every_phase))]
     pub fn new(below: P, shift: u32) -> Phase<P>
         ensures platform { result.below ≡ below }
         ensures moved { result.shift ≡ shift }
@@ -54,28 +31,22 @@ impl<P: Platform> Platform for Phase<P> {
 
     ghost sound = { λ p n. phased_sound p.shift n (P.Platform.meaning p.below n) (P.Platform.sound p.below n) };
 
+    #[tactic(auto, using(crate::proofs::Phasing::phase_described))]
     fn describe(&self, number: Number) -> Option<(u32, u8, u8)> {
         self.below.describe(number)
     }
 
+    #[tactic(auto, using(crate::specs::LayerSoundness::phase_count, crate::specs::LayerSoundness::phase_mark, crate::specs::LayerSoundness::before_within))]
     fn mark(&self, number: Number, a: u8) -> Option<(u32, u32)> {
-        let Some((cycle, count, _)) = self.below.describe(number) else {
+        let Some(stage) = StageBelow::find(&self.below, number) else {
             return None;
         };
-        if a >= count {
+        if a >= stage.count {
             return None;
         }
-        let moved = self.shift % cycle;
-        let first = staying(&self.below, number, cycle, count, moved);
-        let Some((start, stop)) = instance(
-            &self.below,
-            number,
-            cycle,
-            count,
-            first as u32 + a as u32,
-        ) else {
-            return None;
-        };
-        Some((start + moved - cycle, stop + moved - cycle))
+        let moved = self.shift % stage.cycle;
+        let first = stage.marks_before(stage.cycle - moved);
+        let (start, stop) = stage.instance(first as u32 + a as u32);
+        Some((start + moved - stage.cycle, stop + moved - stage.cycle))
     }
 }

@@ -6,6 +6,9 @@ ghost use Rattle.platform.specs.Platforms.{Sound, described, marked};
 // The number of a stage on a platform, or of a title's task.
 pub type Number = u8;
 
+// The highest number of a stage, and of a title's task.
+pub const MAX_NUMBER: Number = 127;
+
 // Two questions over stage numbers 0 to 127. A question changes nothing.
 pub trait Platform {
     // for each number absent, or one stage

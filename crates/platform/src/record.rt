@@ -1,6 +1,8 @@
 // Records of tasks.
-ghost use Rattle.std.specs.Prelude.{◌≡◌, ◌≤◌, true};
-ghost use Rattle.platform.specs.Records.{in_range, offset_in_range, period_in_range, response_in_range};
+ghost use Rattle.std.specs.Prelude.{◌≡◌, ◌≤◌, true, Some};
+ghost use Rattle.platform.specs.Records.{in_range, offset_in_range, period_in_range, record_text, response_in_range};
+
+use std::fmt;
 
 // What is known of a task, in microseconds: it is released every `period`, for the first time at `offset`, and
 // answers within `response`. A higher rank is more urgent.
@@ -20,7 +22,7 @@ impl Record {
     pub fn has_period_in_range(self) -> bool
         ensures { result ≡ period_in_range self }
     {
-        self.period >= MIN_PERIOD && self.period <= MAX_PERIOD
+        (MIN_PERIOD..=MAX_PERIOD).contains(&self.period)
     }
 
     pub fn has_offset_in_range(self) -> bool
@@ -32,19 +34,30 @@ impl Record {
     pub fn has_response_in_range(self) -> bool
         ensures { result ≡ response_in_range self }
     {
-        self.response > 0 && self.response <= self.period
+        (1..=self.period).contains(&self.response)
     }
 
     // Whether the record is within all limits.
     pub fn is_in_range(self) -> bool
         ensures { result ≡ in_range self }
     {
-        if !self.has_period_in_range() {
-            return false;
-        }
-        if !self.has_offset_in_range() {
-            return false;
-        }
-        self.has_response_in_range()
+        self.has_period_in_range() && self.has_offset_in_range() && self.has_response_in_range()
+    }
+}
+
+impl fmt::Display for Record {
+    ghost output = { λ r. Some (record_text r) };
+
+    fn fmt<W: fmt::Write>(&self, f: &mut fmt::Formatter<W>) -> fmt::Result {
+        let Record {
+            period,
+            offset,
+            response,
+            rank,
+        } = *self;
+        write!(
+            f,
+            "period {period} offset {offset} response {response} rank {rank}"
+        )
     }
 }

@@ -1,9 +1,12 @@
 // The layers over a row, run.
+ghost use Rattle.std.specs.Prelude.{◌≡◌, ◌≤◌, ◌<◌, length, None, MatchOption};
+ghost use Rattle.stage.specs.Stages.{Lawful};
+ghost use Rattle.stage.specs.Rows.{stage_of};
 ghost use Rattle.platform.specs.Singles.{single, single_sound};
 
-use crate::{Number, Phase, Platform, Thin};
+use crate::{MAX_NUMBER, Number, Phase, Platform, Thin};
 use stage::{LawfulRow, MAX_MARKS, Row};
-use std::fmt::Debug;
+use std::array;
 use std::test::Fail;
 
 // One row under every number.
@@ -12,24 +15,32 @@ struct Single {
     row: LawfulRow,
 }
 
+impl Single {
+    // The row of a number that has a stage.
+    fn row(&self, number: Number) -> Option<&Row>
+        ensures { MatchOption result (single self.now.row number ≡ None) (λ r. (single self.now.row number ≡ Some (stage_of r.now)) × Lawful (stage_of r.now)) }
+    {
+        if number > MAX_NUMBER {
+            return None;
+        }
+        Some(self.row.row())
+    }
+}
+
 impl Platform for Single {
     ghost meaning = { λ p n. single p.row n };
 
     ghost sound = { λ p n. single_sound p.row n };
 
+    #[tactic(auto, using(stage::proofs::Marks::count_is))]
     fn describe(&self, number: Number) -> Option<(u32, u8, u8)> {
-        if number >= 128 {
-            return None;
-        }
-        let row = self.row.row();
+        let row = self.row(number)?;
         Some((row.cycle, row.count, row.rank))
     }
 
+    #[tactic(auto, using(stage::proofs::Marks::count_is, stage::proofs::Marks::mark_is))]
     fn mark(&self, number: Number, a: u8) -> Option<(u32, u32)> {
-        if number >= 128 {
-            return None;
-        }
-        let row = self.row.row();
+        let row = self.row(number)?;
         if a >= row.count {
             return None;
         }
@@ -38,55 +49,52 @@ impl Platform for Single {
 }
 
 // A row of rank 7 with these marks.
-fn row_of(cycle: u32, marks: &[(u32, u32)]) -> Result<Single, Fail> {
-    let mut starts = [0; MAX_MARKS];
-    let mut stops = [0; MAX_MARKS];
-    let mut count = 0u8;
-    for (start, stop) in marks {
-        let a = count as usize;
-        if a >= MAX_MARKS {
-            return Err(Fail::new("too many marks"));
-        }
-        starts[a] = *start;
-        stops[a] = *stop;
-        count += 1;
-    }
+fn row_of(cycle: u32, marks: &[(u32, u32)]) -> Result<Single, Fail>
+    requires { length marks.now ≤ MAX_MARKS }
+{
     let row = Row {
         cycle,
-        count,
+        count: marks.len() as u8,
         rank: 7,
-        starts,
-        stops,
+        starts: array::from_fn(|a| marks.get(a).map_or(0, |mark| mark.0)),
+        stops: array::from_fn(|a| marks.get(a).map_or(0, |mark| mark.1)),
     };
-    match LawfulRow::new(row) {
-        Some(row) => Ok(Single { row }),
-        None => Err(Fail::new("a row is against the laws")),
+    LawfulRow::new(row)
+        .map(|row| Single { row })
+        .ok_or_else(|| Fail::new("a row is against the laws"))
+}
+
+// What a platform answers of a stage: its description and the first marks.
+#[derive(Clone, Copy, Debug, PartialEq)]
+struct Answers {
+    description: Option<(u32, u8, u8)>,
+    marks: [Option<(u32, u32)>; 3],
+}
+
+const ABSENT: Answers = Answers {
+    description: None,
+    marks: [None; 3],
+};
+
+// The answers of a stage of rank 7 with just these marks.
+fn stage_with(cycle: u32, marks: &[(u32, u32)]) -> Answers
+    requires { length marks.now < 3 }
+{
+    Answers {
+        description: Some((cycle, marks.len() as u8, 7)),
+        marks: [marks.first().copied(), marks.get(1).copied(), None],
     }
 }
 
-// A failure that shows both, where they differ.
-fn check_eq<T: PartialEq + Debug + Drop>(found: T, expected: T) -> Result<(), Fail> {
-    if found == expected {
-        return Ok(());
+fn stage_3<P: Platform>(platform: &P) -> Answers {
+    Answers {
+        description: platform.describe(3),
+        marks: [
+            platform.mark(3, 0),
+            platform.mark(3, 1),
+            platform.mark(3, 2),
+        ],
     }
-    Err(Fail::new(format_args!("{found:?}, and not {expected:?}")))
-}
-
-// Stage 3 has this cycle and just these marks.
-fn expect<P: Platform>(platform: &P, cycle: u32, marks: &[(u32, u32)]) -> Result<(), Fail> {
-    let mut count = 0u8;
-    for mark in marks {
-        check_eq(platform.mark(3, count), Some(*mark))?;
-        count = count.saturating_add(1);
-    }
-    check_eq(platform.mark(3, count), None)?;
-    check_eq(platform.describe(3), Some((cycle, count, 7)))
-}
-
-// There is no stage 3.
-fn expect_absent<P: Platform>(platform: &P) -> Result<(), Fail> {
-    check_eq(platform.describe(3), None)?;
-    check_eq(platform.mark(3, 0), None)
 }
 
 // The row of most tests.
@@ -95,71 +103,51 @@ fn two_marks() -> Result<Single, Fail> {
 }
 
 #[test]
-fn a_mark_wraps_and_every_second_stays() -> Result<(), Fail> {
+fn a_mark_wraps_and_every_second_stays(rt: HostRuntime) -> Result<(), Fail> {
     let below = two_marks()?;
-    expect(
-        &Phase::new(below, 5_000),
-        10_000,
-        &[(1_000, 4_000), (6_000, 7_000)],
-    )?;
-    expect(
-        &Thin::new(below, 2, 1),
-        20_000,
-        &[(6_000, 9_000), (16_000, 19_000)],
-    )
+    assert_eq!(rt;
+        stage_3(&Phase::new(below, 5_000)),
+        stage_with(10_000, &[(1_000, 4_000), (6_000, 7_000)])
+    );
+    assert_eq!(rt;
+        stage_3(&Thin::new(below, 2, 1)),
+        stage_with(20_000, &[(6_000, 9_000), (16_000, 19_000)])
+    );
+    Ok(())
 }
 
 #[test]
 fn phases_of_nothing_and_of_much(rt: HostRuntime) -> Result<(), Fail> {
     let below = two_marks()?;
-    expect(
-        &Phase::new(below, 0),
-        10_000,
-        &[(1_000, 2_000), (6_000, 9_000)],
-    )?;
-    expect(
-        &Phase::new(below, 10_000),
-        10_000,
-        &[(1_000, 2_000), (6_000, 9_000)],
-    )?;
-    expect(
-        &Phase::new(below, u32::MAX),
-        10_000,
-        &[(3_295, 6_295), (8_295, 9_295)],
-    )?;
+    assert_eq!(rt;
+        stage_3(&Phase::new(below, 0)),
+        stage_with(10_000, &[(1_000, 2_000), (6_000, 9_000)])
+    );
+    assert_eq!(rt;
+        stage_3(&Phase::new(below, 10_000)),
+        stage_with(10_000, &[(1_000, 2_000), (6_000, 9_000)])
+    );
+    assert_eq!(rt;
+        stage_3(&Phase::new(below, u32::MAX)),
+        stage_with(10_000, &[(3_295, 6_295), (8_295, 9_295)])
+    );
     assert_eq!(rt; Phase::new(below, 5_000).describe(128), None);
     Ok(())
 }
 
 #[test]
-fn every_mark_wraps() -> Result<(), Fail> {
-    expect(
-        &Phase::new(two_marks()?, 9_500),
-        10_000,
-        &[(500, 1_500), (5_500, 8_500)],
-    )
+fn every_mark_wraps(rt: HostRuntime) -> Result<(), Fail> {
+    assert_eq!(rt;
+        stage_3(&Phase::new(two_marks()?, 9_500)),
+        stage_with(10_000, &[(500, 1_500), (5_500, 8_500)])
+    );
+    Ok(())
 }
 
 #[test]
 fn forty_eight_marks(rt: HostRuntime) -> Result<(), Fail> {
-    let mut starts = [0; MAX_MARKS];
-    let mut stops = [0; MAX_MARKS];
-    for a in 0..MAX_MARKS {
-        let start = a as u32 * 100;
-        starts[a] = start;
-        stops[a] = start + 50;
-    }
-    let row = Row {
-        cycle: 4_800,
-        count: 48,
-        rank: 7,
-        starts,
-        stops,
-    };
-    let Some(row) = LawfulRow::new(row) else {
-        return Err(Fail::new("a row is against the laws"));
-    };
-    let phase = Phase::new(Single { row }, 150);
+    let marks: [(u32, u32); MAX_MARKS] = array::from_fn(|a| (a as u32 * 100, a as u32 * 100 + 50));
+    let phase = Phase::new(row_of(4_800, &marks)?, 150);
     assert_eq!(rt; phase.describe(3), Some((4_800, 48, 7)));
     assert_eq!(rt; phase.mark(3, 0), Some((50, 100)));
     assert_eq!(rt; phase.mark(3, 47), Some((4_750, 4_800)));
@@ -168,51 +156,58 @@ fn forty_eight_marks(rt: HostRuntime) -> Result<(), Fail> {
 }
 
 #[test]
-fn a_mark_ends_past_the_cycle() -> Result<(), Fail> {
+fn a_mark_ends_past_the_cycle(rt: HostRuntime) -> Result<(), Fail> {
     let below = row_of(10_000, &[(500, 3_000), (8_000, 10_400)])?;
-    expect(
-        &Phase::new(below, 1_000),
-        10_000,
-        &[(1_500, 4_000), (9_000, 11_400)],
-    )?;
-    expect(
-        &Phase::new(below, 2_500),
-        10_000,
-        &[(500, 2_900), (3_000, 5_500)],
-    )?;
-    expect(
-        &Thin::new(below, 2, 1),
-        20_000,
-        &[(8_000, 10_400), (18_000, 20_400)],
-    )
+    assert_eq!(rt;
+        stage_3(&Phase::new(below, 1_000)),
+        stage_with(10_000, &[(1_500, 4_000), (9_000, 11_400)])
+    );
+    assert_eq!(rt;
+        stage_3(&Phase::new(below, 2_500)),
+        stage_with(10_000, &[(500, 2_900), (3_000, 5_500)])
+    );
+    assert_eq!(rt;
+        stage_3(&Thin::new(below, 2, 1)),
+        stage_with(20_000, &[(8_000, 10_400), (18_000, 20_400)])
+    );
+    Ok(())
 }
 
 #[test]
-fn thins_within_the_limits_only() -> Result<(), Fail> {
+fn thins_within_the_limits_only(rt: HostRuntime) -> Result<(), Fail> {
     let below = two_marks()?;
-    expect(
-        &Thin::new(below, 1, 0),
-        10_000,
-        &[(1_000, 2_000), (6_000, 9_000)],
-    )?;
-    expect(
-        &Thin::new(below, 16, 15),
-        160_000,
-        &[(76_000, 79_000), (156_000, 159_000)],
-    )?;
-    expect_absent(&Thin::new(below, 0, 0))?;
-    expect_absent(&Thin::new(below, 17, 0))?;
-    expect_absent(&Thin::new(below, 3, 3))?;
+    assert_eq!(rt;
+        stage_3(&Thin::new(below, 1, 0)),
+        stage_with(10_000, &[(1_000, 2_000), (6_000, 9_000)])
+    );
+    assert_eq!(rt;
+        stage_3(&Thin::new(below, 16, 15)),
+        stage_with(160_000, &[(76_000, 79_000), (156_000, 159_000)])
+    );
+    assert_eq!(rt; stage_3(&Thin::new(below, 0, 0)), ABSENT);
+    assert_eq!(rt; stage_3(&Thin::new(below, 17, 0)), ABSENT);
+    assert_eq!(rt; stage_3(&Thin::new(below, 3, 3)), ABSENT);
     let long = row_of(10_000_000, &[(0, 1)])?;
-    expect(&Thin::new(long, 10, 0), 100_000_000, &[(0, 1)])?;
-    expect_absent(&Thin::new(long, 11, 0))
+    assert_eq!(rt;
+        stage_3(&Thin::new(long, 10, 0)),
+        stage_with(100_000_000, &[(0, 1)])
+    );
+    assert_eq!(rt; stage_3(&Thin::new(long, 11, 0)), ABSENT);
+    Ok(())
 }
 
 #[test]
-fn layers_on_layers() -> Result<(), Fail> {
+fn layers_on_layers(rt: HostRuntime) -> Result<(), Fail> {
     let below = two_marks()?;
     let phase = Phase::new(Thin::new(Phase::new(below, 5_000), 2, 1), 5_000);
-    expect(&phase, 20_000, &[(1_000, 2_000), (11_000, 12_000)])?;
+    assert_eq!(rt;
+        stage_3(&phase),
+        stage_with(20_000, &[(1_000, 2_000), (11_000, 12_000)])
+    );
     let thin = Thin::new(Phase::new(Thin::new(below, 2, 1), 5_000), 2, 0);
-    expect(&thin, 40_000, &[(1_000, 4_000), (21_000, 24_000)])
+    assert_eq!(rt;
+        stage_3(&thin),
+        stage_with(40_000, &[(1_000, 4_000), (21_000, 24_000)])
+    );
+    Ok(())
 }
