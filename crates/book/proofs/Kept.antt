@@ -1,20 +1,24 @@
 -- What every book keeps, through each change.
 -- Assumes nothing.
-use Rattle.std.proofs.Common.{◌≡◌, ℕ, zero, suc, ◌<◌, ◌≤◌, Bool, true, false, cond, not, ◌&&◌, eqb, ltb, leb, List, [], ◌∷◌, length, get_or, replicate, is_some, Some, None, Option, sym, refl, ap, ◌∙◌, subst, ⊎_elim, arith}
+use Rattle.std.proofs.Common.{◌≡◌, ℕ, zero, suc, ◌<◌, Bool, true, false, cond, not, eqb, ltb, List, [], ◌∷◌, length, get_or, replicate, is_some, Some, None, Option, sym, refl, ap, ◌∙◌, subst, ⊎_elim, arith}
 use mathlib.Core.Bool.{Bool-set}
 use mathlib.Core.HLevel.{Π_prop, ×_prop, ×₃_prop, Unit-prop}
 use mathlib.Core.Logic.{∥∥₁_elim}
 use native.Mathlib.Bridge.{le_prop}
 use Rattle.std.specs.Map.{update}
 use Rattle.std.specs.Option.{option_map}
-use Rattle.std.proofs.lemmas.Bool.{cases_Bool, cond-true, cond-false, ltb-false, le-leb, lt-ltb, ne_eqb, both_ways}
+use Rattle.std.proofs.lemmas.Bool.{cases_Bool, cond-true, cond-false, ltb-false, lt-ltb, ne_eqb, both_ways}
 use Rattle.stage.specs.Stages.{Stage}
 use Rattle.platform.specs.declared.record.Record.{Record}
 use Rattle.arrayvec.specs.ArrayVec.{ArrayVec}
 use Rattle.book.specs.declared.table.Table.{Table}
 use Rattle.book.specs.declared.table.Task.{Task}
 use Rattle.book.specs.Keeping.{Keeps, keeps_prop, seen}
-use Rattle.platform.specs.Records.{record_stage, in_range, period_in_range, offset_in_range, response_in_range}
+use Rattle.platform.specs.LawfulRecords.{fault_of}
+use Rattle.platform.specs.Records.{record_stage, period_in_range, offset_in_range, response_in_range}
+use Rattle.platform.specs.declared.lawful_record.RecordFault.{RecordFault}
+use Rattle.platform.specs.declared.lawful_record.RecordFault.TheVariants.{Period, Offset, Response}
+use Rattle.book.specs.Faults.{record_fault}
 use Rattle.book.specs.Ledgers.{entry_stage, first_absent, on_route, refuse, ◌then◌, number_refusal, record_refusal}
 use Rattle.book.proofs.Routes.{off_route, present_all}
 use Rattle.book.specs.Tasks.{held_under, Distinct, Ranged}
@@ -97,16 +101,25 @@ number_low n e = ⊎_elim (λ h. absurd (refuse_none 1 (ltb 127 n) e h)) (λ h. 
     refuse_none k true e h = let z : ◌≡◌ {A = ℕ} 0 1 = cc in omega arith
     refuse_none k false e h = both_ways false refl h
 
-pub record_in_range : (r : Record) → r.rank ≤ 255 → None ≡ record_refusal r → in_range r ≡ true
-record_in_range r rank e =
-    tests (period_in_range r) (offset_in_range r) (response_in_range r) (leb r.rank 255) e (le-leb r.rank 255 rank)
+pub record_checked : (r : Record) → fault_of r ≡ None → record_refusal r ≡ None
+record_checked r = tests (period_in_range r) (offset_in_range r) (response_in_range r)
   where
-    tests : (p o s k : Bool) → None ≡ (refuse 2 (not p) then refuse 3 (not o) then refuse 4 (not s)) → k ≡ true
-        → (p && (o && (s && k))) ≡ true
-    tests true true true k e h = h
-    tests true true false k e h = cc
-    tests true false s k e h = cc
-    tests false o s k e h = cc
+    tests : (p o s : Bool) → cond p (cond o (cond s None (Some Response)) (Some Offset)) (Some Period) ≡ None
+        → (refuse 2 (not p) then refuse 3 (not o) then refuse 4 (not s)) ≡ None
+    tests true true true e = refl
+    tests true true false e = cc
+    tests true false s e = cc
+    tests false o s e = cc
+
+pub record_refused : (r : Record) (fault : RecordFault) → fault_of r ≡ Some fault → record_refusal r ≡ Some (record_fault fault)
+record_refused r fault = tests (period_in_range r) (offset_in_range r) (response_in_range r)
+  where
+    tests : (p o s : Bool) → cond p (cond o (cond s None (Some Response)) (Some Offset)) (Some Period) ≡ Some fault
+        → (refuse 2 (not p) then refuse 3 (not o) then refuse 4 (not s)) ≡ Some (record_fault fault)
+    tests true true true e = cc
+    tests true true false e = let same : Response ≡ fault = cc in ap (λ f. Some (record_fault f)) same
+    tests true false s e = let same : Offset ≡ fault = cc in ap (λ f. Some (record_fault f)) same
+    tests false o s e = let same : Period ≡ fault = cc in ap (λ f. Some (record_fault f)) same
 
 -- a route whose entries are all held or present
 pub route_keeps : (meaning : ℕ → Option Stage) (t : Table) (old new : ArrayVec ℕ) (entries : List ℕ) → Keeps t old

@@ -1,8 +1,7 @@
 -- Which refusal a query comes to, check by check.
 -- Assumes nothing.
-use Rattle.std.proofs.Common.{◌≡◌, ℕ, zero, suc, ◌<◌, ◌≤◌, List, [], ◌∷◌, length, Some, None, Option, sym, refl, ap, ◌∙◌, subst, inl, inr, arith, MatchOption}
+use Rattle.std.proofs.Common.{◌≡◌, ℕ, zero, suc, ◌<◌, ◌≤◌, List, [], ◌∷◌, length, Some, None, Option, sym, refl, ap, subst, inl, inr, arith, MatchOption}
 use Rattle.std.specs.Option.{option_map}
-use Rattle.stage.specs.Stages.{Stage}
 use Rattle.path.specs.Numbering.{semantics_number}
 use Rattle.path.specs.Refusals.{Accepted, Refused, HasMacroPeriod, RightLength}
 use Rattle.path.specs.declared.semantics.Semantics.{Semantics}

@@ -1,14 +1,10 @@
 -- The row that is copied from a stage's answers means that stage.
 -- Assumes nothing.
-use Rattle.std.proofs.Common.{◌≡◌, ℕ, suc, ◌+◌, ◌-◌, ◌<◌, ◌≤◌, ltb, ◌≢◌, List, [], ◌∷◌, ◌++◌, map, length, get_or, take, set, is_some, IfSome, Some, None, Option, sym, refl, ap, ◌∙◌, subst, ⊎_elim, arith, get_or-set_other, get_or-set_same, below_more, MatchOption}
-use Rattle.std.specs.List.{slice_get, range_with_len}
+use Rattle.std.proofs.Common.{◌≡◌, ℕ, ◌+◌, ◌-◌, ◌<◌, ◌≤◌, ltb, List, [], ◌∷◌, ◌++◌, map, length, get_or, take, IfSome, Some, None, Option, sym, refl, ap, ◌∙◌, subst, arith, below_more, MatchOption}
 use Rattle.std.proofs.lemmas.List.{ext_get_or, get_or_append_left, get_or_push, map-append, take_more}
-use Rattle.std.proofs.lemmas.Option.{slice_get-get_or, slice_get_past}
 use Rattle.path.specs.Given.{stage_in, stages_of}
-use Rattle.path.specs.Timed.{no_stage}
 use Rattle.std.specs.Option.{option_map}
-use Rattle.std.proofs.lemmas.List.FromFn.{fill_by_all}
-use Rattle.std.proofs.lemmas.Bool.{both_ways, cases_lt, cond_both, cond-true, lt-ltb}
+use Rattle.std.proofs.lemmas.Bool.{cond_both, cond-true, lt-ltb}
 use Rattle.stage.specs.Stages.{Stage, Lawful, count_of, mark_of}
 use Rattle.stage.specs.Rows.{stage_of}
 use Rattle.stage.specs.declared.row.Row.{Row}
@@ -20,9 +16,8 @@ use Rattle.platform.specs.Soundness.{record_lawful}
 use Rattle.arrayvec.specs.ArrayVec.{ArrayVec}
 use Rattle.book.specs.declared.table.Table.{Table}
 use Rattle.book.specs.Keeping.{Keeps, seen}
-use Rattle.book.specs.Ledgers.{entry_stage, first_absent, present_stages}
+use Rattle.book.specs.Ledgers.{entry_stage, present_stages}
 use Rattle.book.specs.Tasks.{held_under}
-use Rattle.book.proofs.Routes.{present_all}
 use Rattle.book.proofs.Slots.{held_in_range}
 
 -- each entry's stage keeps the laws

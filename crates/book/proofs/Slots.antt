@@ -145,7 +145,7 @@ emptied_ranged (None ∷ xs) (suc i) d = emptied_ranged xs i d
 emptied_ranged (Some t ∷ xs) zero d = d.2
 emptied_ranged (Some t ∷ xs) (suc i) d = (d.0, d.1, emptied_ranged xs i d.2)
 
-pub filled_ranged : (slots : List (Option Task)) (i : ℕ) (t : Task) → t.number < 128 → in_range t.record ≡ true
+pub filled_ranged : (slots : List (Option Task)) (i : ℕ) (t : Task) → t.number < 128 → in_range t.record.record ≡ true
     → Ranged slots → Ranged (set slots i (Some t))
 filled_ranged [] i t low range d = d
 filled_ranged (None ∷ xs) zero t low range d = (low, range, d)
@@ -211,7 +211,7 @@ unfolding more
 slots_counted [] d h = omega (arith, count_none 128)
 slots_counted (None ∷ xs) d h = omega (arith, slots_counted xs d h)
 slots_counted (Some t ∷ xs) d h =
-    omega (arith, slots_counted xs d.1 h.2, count_more (held_under xs) t.number t.record (none_held _ d.0) 128 h.0)
+    omega (arith, slots_counted xs d.1 h.2, count_more (held_under xs) t.number t.record.record (none_held _ d.0) 128 h.0)
 
 vacant_some : (slots : List (Option Task)) (i : ℕ) → i < length slots → get_or slots i None ≡ None → 0 < vacant slots
 vacant_some [] i h e = absurd (omega arith)
@@ -253,7 +253,7 @@ module _ (slots : List (Option Task)) (d : Distinct slots) (range : Ranged slots
 
 -- what is held after a slot took a record
 pub put_held : (slots : List (Option Task)) (i : ℕ) (t : Task) → Ready slots i t.number
-    → (m : ℕ) → held_under (set slots i (Some t)) m ≡ update eqb (held_under slots) t.number (Some t.record) m
+    → (m : ℕ) → held_under (set slots i (Some t)) m ≡ update eqb (held_under slots) t.number (Some t.record.record) m
 put_held slots i t ready m =
     ⊎_elim
     (λ e.
@@ -289,6 +289,6 @@ held_in_range [] n r range e = cc
 held_in_range (None ∷ xs) n r range e = held_in_range xs n r range e
 held_in_range (Some t ∷ xs) n r range e =
     ⊎_elim
-    (λ h. let same : Some r ≡ Some t.record = e ∙ cond-true _ _ _ h in let r_is : r ≡ t.record = cc in ap in_range r_is ∙ range.1)
+    (λ h. let same : Some r ≡ Some t.record.record = e ∙ cond-true _ _ _ h in let r_is : r ≡ t.record.record = cc in ap in_range r_is ∙ range.1)
     (λ h. held_in_range xs n r range.2 (e ∙ cond-false _ _ _ h))
     (cases_Bool (eqb n t.number))

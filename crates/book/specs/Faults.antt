@@ -2,7 +2,9 @@
 -- Assumes nothing.
 use Rattle.std.specs.Prelude.{ℕ, Some, None, Ok, Err, Option, Result}
 use Rattle.book.specs.declared.fault.TaskFault.{TaskFault}
-use Rattle.book.specs.declared.fault.TaskFault.TheVariants.{Number, Period, Offset, Response, Full, NotHeld, OnRoute}
+use Rattle.book.specs.declared.fault.TaskFault.TheVariants.{Number, Record, Full, NotHeld, OnRoute}
+use Rattle.platform.specs.declared.lawful_record.RecordFault.{RecordFault}
+use Rattle.platform.specs.declared.lawful_record.RecordFault.TheVariants.{Period, Offset, Response}
 use Rattle.book.specs.declared.fault.RouteFault.{RouteFault}
 use Rattle.book.specs.declared.fault.RouteFault.TheVariants.{Task, Length, Absent}
 use Rattle.book.specs.declared.fault.AnalysisFault.{AnalysisFault}
@@ -18,11 +20,14 @@ pub record Refusal : Type 0 where
 abbrev pub at_0 : ℕ → Refusal
 at_0 n = record { number = n; place = 0 }
 
+abbrev pub record_fault : RecordFault → Refusal
+record_fault Period = at_0 2
+record_fault Offset = at_0 3
+record_fault Response = at_0 4
+
 abbrev pub task_fault : TaskFault → Refusal
 task_fault Number = at_0 1
-task_fault Period = at_0 2
-task_fault Offset = at_0 3
-task_fault Response = at_0 4
+task_fault (Record fault) = record_fault fault
 task_fault Full = at_0 5
 task_fault NotHeld = at_0 6
 task_fault OnRoute = at_0 7

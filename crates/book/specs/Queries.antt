@@ -1,7 +1,6 @@
 -- What a query answers.
 -- Assumes nothing.
-use Rattle.std.specs.Prelude.{◌≡◌, ℕ, List, length, Option}
-use Rattle.stage.specs.Stages.{Stage}
+use Rattle.std.specs.Prelude.{◌≡◌, ℕ, List, length}
 use Rattle.path.specs.Figures.{Figure}
 use Rattle.path.specs.Numbering.{semantics_number}
 use Rattle.path.specs.declared.semantics.Semantics.{Semantics}

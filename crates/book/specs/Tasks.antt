@@ -3,6 +3,7 @@
 use Rattle.std.specs.Prelude.{◌≡◌, ℕ, ◌+◌, ◌<◌, Bool, true, false, cond, ◌||◌, List, [], ◌∷◌, length, get_or, is_some, Some, None, Option, ◌==◌, ◌≢◌, nat_eq, nat_lt, slice_index_or, slice_set}
 use Rattle.std.specs.Map.{update}
 use Rattle.platform.specs.declared.record.Record.{Record}
+use Rattle.platform.specs.declared.lawful_record.LawfulRecord.{LawfulRecord}
 use Rattle.platform.specs.Records.{in_range}
 use Rattle.book.specs.Ledgers.{held_count}
 use Rattle.book.specs.declared.table.Task.{Task}
@@ -12,9 +13,12 @@ abbrev pub has_number : Option Task → ℕ → Bool
 has_number None n = false
 has_number (Some t) n = n == t.number
 
+abbrev pub record_of : LawfulRecord → Record
+record_of l = l.record
+
 abbrev pub record_in : Option Task → Option Record
 record_in None = None
-record_in (Some t) = Some t.record
+record_in (Some t) = Some (record_of t.record)
 
 -- the record in the first slot that has the number
 abbrev pub held_under : List (Option Task) → ℕ → Option Record
@@ -31,7 +35,7 @@ Distinct (Some t ∷ slots) = (is_some (held_under slots t.number) ≡ false) ×
 abbrev pub Ranged : List (Option Task) → Type 0
 Ranged [] = Unit {0}
 Ranged (None ∷ slots) = Ranged slots
-Ranged (Some t ∷ slots) = (t.number < 128) × (in_range t.record ≡ true) × Ranged slots
+Ranged (Some t ∷ slots) = (t.number < 128) × (in_range t.record.record ≡ true) × Ranged slots
 
 -- slot i has a task of this number, and its record is the one held
 pub record Found (slots : List (Option Task)) (i n : ℕ) : Type 0 where

@@ -1,10 +1,12 @@
 // What a call is refused by. Each layer has an enum of its own, and an upper layer's holds the lower one's whole.
 ghost use Rattle.std.specs.Prelude.{◌≡◌};
+ghost use Rattle.book.specs.declared.fault.TaskFault.TheVariants.{Record as record_case};
 ghost use Rattle.book.specs.declared.fault.RouteFault.TheVariants.{Task as task_case};
-ghost use Rattle.book.specs.declared.fault.AnalysisFault.TheVariants.{Route as route_case};
-ghost use Rattle.book.specs.Faults.{Refusal, analysis_fault, route_fault, search_fault, task_fault};
+ghost use Rattle.book.specs.declared.fault.AnalysisFault.TheVariants.{Route as route_case, Semantics as semantics_case};
+ghost use Rattle.book.specs.Faults.{Refusal, analysis_fault, record_fault, route_fault, search_fault, task_fault};
 
-use path::SearchFault;
+use path::{SearchFault, UnknownSemantics};
+use platform::RecordFault;
 use thiserror::Error;
 
 // A refusal by number and place, whichever layer it comes from.
@@ -23,17 +25,29 @@ pub trait Fault: Copy {
 // Where a fault is that belongs to no entry.
 const NO_PLACE: usize = 0;
 
+impl Fault for RecordFault {
+    ghost refusal = { record_fault };
+
+    fn number(self) -> u8 {
+        match self {
+            RecordFault::Period => 2,
+            RecordFault::Offset => 3,
+            RecordFault::Response => 4,
+        }
+    }
+
+    fn place(self) -> usize {
+        NO_PLACE
+    }
+}
+
 // Faults of a task's number and record.
 #[derive(Clone, Copy, Debug, PartialEq, Eq, Error)]
 pub enum TaskFault {
     #[error("the number is above 127")]
     Number,
-    #[error("the period is outside 100 to 1000000")]
-    Period,
-    #[error("the offset is not below the period")]
-    Offset,
-    #[error("the response is 0 or above the period")]
-    Response,
+    #[error(transparent)]
+    Record(RecordFault),
     // the number is a new one
     #[error("32 tasks are held")]
     Full,
@@ -49,9 +63,7 @@ impl Fault for TaskFault {
     fn number(self) -> u8 {
         match self {
             TaskFault::Number => 1,
-            TaskFault::Period => 2,
-            TaskFault::Offset => 3,
-            TaskFault::Response => 4,
+            TaskFault::Record(fault) => fault.number(),
             TaskFault::Full => 5,
             TaskFault::NotHeld => 6,
             TaskFault::OnRoute => 7,
@@ -60,6 +72,14 @@ impl Fault for TaskFault {
 
     fn place(self) -> usize {
         NO_PLACE
+    }
+}
+
+impl From<RecordFault> for TaskFault {
+    ghost from_gives = { λ x y. y ≡ record_case x };
+
+    fn from(fault: RecordFault) -> TaskFault {
+        TaskFault::Record(fault)
     }
 }
 
@@ -160,5 +180,13 @@ impl From<SearchFault> for AnalysisFault {
             SearchFault::MacroPeriod => AnalysisFault::MacroPeriod,
             SearchFault::Buffer => AnalysisFault::Buffer,
         }
+    }
+}
+
+impl From<UnknownSemantics> for AnalysisFault {
+    ghost from_gives = { λ _ y. y ≡ semantics_case };
+
+    fn from(_unknown: UnknownSemantics) -> AnalysisFault {
+        AnalysisFault::Semantics
     }
 }

@@ -1,10 +1,11 @@
 // The book's inner table of tasks, a plain one: what it has to keep is the book's to say.
 ghost use Rattle.std.specs.Prelude.{◌≡◌, ◌<◌, false, replicate, is_ok, IfErr, IfSome, None, MatchOption};
-ghost use Rattle.book.specs.Tasks.{Distinct, Found, Put, Ranged, Ready, Removed, Vacant, has_room, held_under, vacant};
+ghost use Rattle.std.specs.Option.{option_map};
+ghost use Rattle.book.specs.Tasks.{Distinct, Found, Put, Ranged, Ready, Removed, Vacant, has_room, held_under, record_of, vacant};
 ghost use Rattle.book.specs.declared.fault.TaskFault.TheVariants.{Full};
 
 use crate::fault::TaskFault;
-use platform::{Number, Record};
+use platform::{LawfulRecord, Number};
 
 // The most tasks that a book holds.
 pub const MAX_TASKS: usize = 32;
@@ -12,7 +13,7 @@ pub const MAX_TASKS: usize = 32;
 #[derive(Clone, Copy)]
 pub struct Task {
     pub number: Number,
-    pub record: Record,
+    pub record: LawfulRecord,
 }
 
 // One slot for each task that can be held.
@@ -58,16 +59,16 @@ impl Table {
     }
 
     // The record that is held under a number.
-    pub fn get(&self, number: Number) -> Option<Record>
-        ensures { result ≡ held_under self.now.slots number }
+    pub fn get(&self, number: Number) -> Option<LawfulRecord>
+        ensures { option_map record_of result ≡ held_under self.now.slots number }
     {
         let slot = slot_of(&self.slots, number)?;
         self.slots[slot].map(|task| task.record)
     }
 
     // Replaces the one record of a held number, or holds a new one where there is room for it.
-    pub fn put(&mut self, number: Number, record: Record) -> Result<(), TaskFault>
-        ensures put { Distinct self.old.slots → Ranged self.old.slots → Put self.old.slots self.new.slots number «record» (is_ok result) }
+    pub fn put(&mut self, number: Number, record: LawfulRecord) -> Result<(), TaskFault>
+        ensures put { Distinct self.old.slots → Ranged self.old.slots → Put self.old.slots self.new.slots number «record».record (is_ok result) }
         ensures full { IfErr result (λ fault. fault ≡ Full) }
     {
         let slot = slot_for(&self.slots, number).ok_or(TaskFault::Full)?;

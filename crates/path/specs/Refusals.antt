@@ -1,6 +1,6 @@
 -- Which searches for the largest delay are refused, and why.
 -- Assumes nothing.
-use Rattle.std.specs.Prelude.{ℕ, ◌<◌, ◌≤◌, List, map, length, codes}
+use Rattle.std.specs.Prelude.{ℕ, ◌<◌, ◌≤◌, List, map, length}
 use Rattle.stage.specs.Stages.{Stage}
 use Rattle.stage.specs.Periods.{CommonMultiple}
 use Rattle.path.specs.declared.delay.SearchFault.{SearchFault}
@@ -27,9 +27,3 @@ Refused Buffer ss room = RightLength ss × HasMacroPeriod ss × (room < length s
 -- It is accepted where none applies.
 abbrev pub Accepted : List Stage → ℕ → Type 0
 Accepted ss room = RightLength ss × HasMacroPeriod ss × (length ss ≤ room)
-
--- what a refusal prints
-abbrev pub fault_text : SearchFault → List ℕ
-fault_text Length = codes "a route has 1 to 16 stages"
-fault_text MacroPeriod = codes "the macro-period is above 100000000"
-fault_text Buffer = codes "the buffer is shorter than the route"

@@ -1,15 +1,14 @@
 // The largest delay along a route of lawful rows.
-ghost use Rattle.std.specs.Prelude.{◌≡◌, length, take, drop, Some, MatchResult};
+ghost use Rattle.std.specs.Prelude.{◌≡◌, length, take, drop, MatchResult};
 ghost use Rattle.path.specs.Given.{stages_of};
 ghost use Rattle.path.specs.Figures.{Figure};
-ghost use Rattle.path.specs.Refusals.{Accepted, Refused, fault_text};
+ghost use Rattle.path.specs.Refusals.{Accepted, Refused};
 
 use crate::largest;
 use crate::route::Route;
 use crate::semantics::Semantics;
 use stage::LawfulRow;
-use std::error::Error;
-use std::fmt;
+use thiserror::Error;
 
 // The most stages a route has.
 pub const MAX_LENGTH: usize = 16;
@@ -21,27 +20,16 @@ pub struct Delay {
     pub predecessor: Option<u64>,
 }
 
-// Why a search is refused: not 1 to 16 rows, no macro-period of at most 100,000,000, or too short a buffer.
-#[derive(Clone, Copy, PartialEq, Eq, Hash, Debug)]
+// Why a search is refused.
+#[derive(Clone, Copy, PartialEq, Eq, Hash, Debug, Error)]
 pub enum SearchFault {
+    #[error("a route has 1 to 16 stages")]
     Length,
+    #[error("the macro-period is above 100000000")]
     MacroPeriod,
+    #[error("the buffer is shorter than the route")]
     Buffer,
 }
-
-impl fmt::Display for SearchFault {
-    ghost output = { λ fault. Some (fault_text fault) };
-
-    fn fmt<W: fmt::Write>(&self, f: &mut fmt::Formatter<W>) -> fmt::Result {
-        f.write_str(match self {
-            SearchFault::Length => "a route has 1 to 16 stages",
-            SearchFault::MacroPeriod => "the macro-period is above 100000000",
-            SearchFault::Buffer => "the buffer is shorter than the route",
-        })
-    }
-}
-
-impl Error for SearchFault {}
 
 // The largest delay along the rows. The path that takes it fills the front of `witness`: of those with the largest delay
 // the one whose last instance is smallest. A refusal leaves `witness` as it was.

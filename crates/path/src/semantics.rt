@@ -1,12 +1,12 @@
 // The four ways to count the delays of timed paths.
-ghost use Rattle.std.specs.Prelude.{◌≡◌, ◌<◌, Some, codes};
+ghost use Rattle.std.specs.Prelude.{◌≡◌, ◌<◌, Some};
 ghost use Rattle.path.specs.Figures.{shown_predecessor};
 ghost use Rattle.path.specs.Numbering.{Names, Numbers, semantics_name, semantics_number};
 ghost use Rattle.path.specs.Steps.{end_in, origin_in};
 
-use std::error::Error;
 use std::fmt;
 use std::str::FromStr;
+use thiserror::Error;
 
 // The first letter says from where a delay is counted: L from the path's first instance, F from the one before it that
 // begins a path. The second says which paths count: L all of them, F those that come first from their first instance.
@@ -19,7 +19,8 @@ pub enum Semantics {
 }
 
 // A number or a name that no semantics has.
-#[derive(Clone, Copy, PartialEq, Eq, Hash, Debug)]
+#[derive(Clone, Copy, PartialEq, Eq, Hash, Debug, Error)]
+#[error("a semantics is LL, LF, FL or FF, by number 0 to 3")]
 pub struct UnknownSemantics;
 
 impl TryFrom<u8> for Semantics {
@@ -79,16 +80,6 @@ impl fmt::Display for Semantics {
         })
     }
 }
-
-impl fmt::Display for UnknownSemantics {
-    ghost output = { λ _. Some (codes "a semantics is LL, LF, FL or FF, by number 0 to 3") };
-
-    fn fmt<W: fmt::Write>(&self, f: &mut fmt::Formatter<W>) -> fmt::Result {
-        f.write_str("a semantics is LL, LF, FL or FF, by number 0 to 3")
-    }
-}
-
-impl Error for UnknownSemantics {}
 
 impl Semantics {
     // The instance from which delays are counted in the block that begins at `begin`, after the one at `before`. There

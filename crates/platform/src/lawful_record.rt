@@ -4,8 +4,7 @@ ghost use Rattle.platform.specs.Platforms.{described, marked};
 ghost use Rattle.platform.specs.Records.{in_range, record_stage};
 
 use crate::record::Record;
-use std::error::Error;
-use std::fmt;
+use thiserror::Error;
 
 // A record within all limits, so a stage of one mark in each cycle.
 #[derive(Clone, Copy, Debug, PartialEq, Eq)]
@@ -15,28 +14,15 @@ pub struct LawfulRecord {
 }
 
 // The first limit that a record is outside of.
-#[derive(Clone, Copy, Debug, PartialEq, Eq)]
+#[derive(Clone, Copy, Debug, PartialEq, Eq, Error)]
 pub enum RecordFault {
+    #[error("the period is outside 100 to 1000000")]
     Period,
+    #[error("the offset is not below the period")]
     Offset,
+    #[error("the response is 0 or above the period")]
     Response,
 }
-
-impl fmt::Display for RecordFault {
-    ghost use Rattle.platform.specs.LawfulRecords.{fault_text};
-
-    ghost output = { λ fault. Some (fault_text fault) };
-
-    fn fmt<W: fmt::Write>(&self, f: &mut fmt::Formatter<W>) -> fmt::Result {
-        f.write_str(match self {
-            RecordFault::Period => "the period is outside 100 to 1000000",
-            RecordFault::Offset => "the offset is not below the period",
-            RecordFault::Response => "the response is 0 or above the period",
-        })
-    }
-}
-
-impl Error for RecordFault {}
 
 impl TryFrom<Record> for LawfulRecord {
     ghost use Rattle.platform.specs.LawfulRecords.{Checks};

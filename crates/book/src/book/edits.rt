@@ -2,17 +2,14 @@
 ghost use Rattle.std.specs.Prelude.{◌≡◌, ℕ, [], None, IfOk};
 ghost use Rattle.book.specs.Faults.{refused_by, route_fault, task_fault};
 ghost use Rattle.book.specs.Books.{Becomes, ledger_of, view_of};
-ghost use Rattle.book.specs.Ledgers.{enter_refusal, entered, number_refusal, outside_lengths, record_refusal, refuse, retire_refusal, retired, route_refusal, routed};
+ghost use Rattle.book.specs.Ledgers.{enter_refusal, entered, number_refusal, outside_lengths, refuse, retire_refusal, retired, route_refusal, routed};
 
 use crate::book::{Book, Open};
 use crate::fault::{RouteFault, TaskFault};
 use crate::table::Table;
 use arrayvec::ArrayVec;
 use path::MAX_LENGTH;
-use platform::{Number, Platform, Record};
-
-// The highest number of a title task.
-const MAX_NUMBER: Number = 127;
+use platform::{LawfulRecord, MAX_NUMBER, Number, Platform, Record};
 
 fn check_number(number: Number) -> Result<(), TaskFault>
     ensures { refused_by task_fault result ≡ number_refusal number }
@@ -22,21 +19,6 @@ fn check_number(number: Number) -> Result<(), TaskFault>
     } else {
         Ok(())
     }
-}
-
-fn check_record(record: Record) -> Result<(), TaskFault>
-    ensures { refused_by task_fault result ≡ record_refusal «record» }
-{
-    if !record.has_period_in_range() {
-        return Err(TaskFault::Period);
-    }
-    if !record.has_offset_in_range() {
-        return Err(TaskFault::Offset);
-    }
-    if !record.has_response_in_range() {
-        return Err(TaskFault::Response);
-    }
-    Ok(())
 }
 
 // The entries as a route, where there are 1 to 16.
@@ -71,7 +53,7 @@ impl<P: Platform> Book<P, Open> {
         ensures after { Becomes self.old self.new (entered (ledger_of self.old) number «record») }
     {
         check_number(number)?;
-        check_record(record)?;
+        let record = LawfulRecord::try_from(record)?;
         self.table.put(number, record)
     }
 

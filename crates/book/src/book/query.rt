@@ -8,7 +8,7 @@ ghost use Rattle.book.specs.Queries.{QueryAnswer};
 use crate::answer::Answer;
 use crate::book::Book;
 use crate::fault::AnalysisFault;
-use path::{Semantics, largest_delay};
+use path::{Delay, Semantics, largest_delay};
 use platform::Platform;
 
 impl<P: Platform, S> Book<P, S> {
@@ -20,12 +20,12 @@ impl<P: Platform, S> Book<P, S> {
         ensures rest { drop (long (ledger_of self.now).route) buffer.new ≡ drop (long (ledger_of self.now).route) buffer.old }
     {
         let rows = self.route_rows()?;
-        let kind = Semantics::from_number(semantics).ok_or(AnalysisFault::Semantics)?;
-        let found = largest_delay(rows.as_slice(), kind, buffer)?;
+        let kind = Semantics::try_from(semantics)?;
+        let Delay { delay, predecessor } = largest_delay(rows.as_slice(), kind, buffer)?;
         Ok(Answer {
-            delay: found.delay,
+            delay,
             length: rows.len(),
-            predecessor: found.predecessor,
+            predecessor,
         })
     }
 }

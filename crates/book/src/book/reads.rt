@@ -11,10 +11,10 @@ use crate::book::Book;
 use crate::fault::RouteFault;
 use arrayvec::ArrayVec;
 use path::MAX_LENGTH;
-use platform::{Number, Platform};
+use platform::{LawfulRecord, MAX_NUMBER, Number, Platform};
 
 // Route numbers from here on name platform stages, counted from 0.
-const FIRST_PLATFORM_ENTRY: Number = 128;
+const FIRST_PLATFORM_ENTRY: Number = MAX_NUMBER + 1;
 
 impl<P: Platform, S> Book<P, S> {
     // Cycle, count and rank of a route entry's stage; nothing where it is neither held nor present.
@@ -24,8 +24,7 @@ impl<P: Platform, S> Book<P, S> {
         if entry >= FIRST_PLATFORM_ENTRY {
             return self.platform.describe(entry - FIRST_PLATFORM_ENTRY);
         }
-        let record = self.table.get(entry)?;
-        Some((record.period, 1, record.rank))
+        self.table.get(entry).map(LawfulRecord::describe)
     }
 
     // Looks at the entries one by one.
@@ -46,12 +45,7 @@ impl<P: Platform, S> Book<P, S> {
         if entry >= FIRST_PLATFORM_ENTRY {
             return self.platform.mark(entry - FIRST_PLATFORM_ENTRY, a);
         }
-        let record = self.table.get(entry)?;
-        if a == 0 {
-            Some((record.offset, record.offset + record.response))
-        } else {
-            None
-        }
+        self.table.get(entry)?.mark(a)
     }
 
     // How many entries the route has; 0 where there is no route.

@@ -2,7 +2,6 @@ use Rattle.std.proofs.Common.{rules, tests}
 use Rattle.std.proofs.lemmas.Iterator.{YieldsList-from_slice}
 use Rattle.std.proofs.lemmas.Iterator.Search.{position_from_yields_List}
 use Rattle.book.specs.Tasks.{has_number}
-use Rattle.book.specs.declared.table.Task.{Task}
 use Rattle.book.proofs.Slots.{found_by_number}
 use Rattle.book.proofs.table.slot_of.Goals as goal
 

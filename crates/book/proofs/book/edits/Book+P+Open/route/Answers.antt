@@ -1,4 +1,3 @@
-use Rattle.std.proofs.Common.{rules}
 use Rattle.book.proofs.Kept.{kept, route_keeps}
 use Rattle.book.proofs.Queries.{none_absent}
 use Rattle.book.proofs.book.edits.Book+P+Open.route.Goals as goal
