@@ -78,8 +78,8 @@ impl Fault for TaskFault {
 impl From<RecordFault> for TaskFault {
     ghost from_gives = { λ x y. y ≡ record_case x };
 
-    fn from(fault: RecordFault) -> TaskFault {
-        TaskFault::Record(fault)
+    fn from(record: RecordFault) -> TaskFault {
+        TaskFault::Record(record)
     }
 }
 
@@ -170,6 +170,14 @@ impl From<RouteFault> for AnalysisFault {
     }
 }
 
+impl From<TaskFault> for AnalysisFault {
+    ghost from_gives = { λ x y. y ≡ route_case (task_case x) };
+
+    fn from(task: TaskFault) -> AnalysisFault {
+        AnalysisFault::Route(task.into())
+    }
+}
+
 // A route that is held has 1 to 16 entries, so the search finds a wrong length only where there is none.
 impl From<SearchFault> for AnalysisFault {
     ghost from_gives = { λ x y. y ≡ search_fault x };
@@ -187,6 +195,6 @@ impl From<UnknownSemantics> for AnalysisFault {
     ghost from_gives = { λ _ y. y ≡ semantics_case };
 
     fn from(_unknown: UnknownSemantics) -> AnalysisFault {
-        AnalysisFault::Semantics
+        Self::Semantics
     }
 }

@@ -3,6 +3,7 @@
 
 mod play;
 mod script;
+mod sheet;
 
 use crate::script::Layers;
 use book::Book;
@@ -14,11 +15,13 @@ fn run(rt: &HostRuntime) -> anyhow::Result<()> {
     rt.stdin().read_to_end(&mut bytes)?;
     let text = script::as_text(rt.alloc(), bytes.as_slice())?;
     let script = script::read(rt.alloc(), text.as_str())?;
-    let records = script::platform_records(rt.alloc(), script.as_slice())?;
-    let Layers { shift, every, from } = script::platform_layers(script.as_slice());
+    let (platform, calls) = script::parts(script.as_slice());
+    let records = script::records_of(rt.alloc(), platform)?;
+    let Layers { shift, every, from } = script::layers_of(platform);
     let thin = Thin::new(Metronome::new(records.as_slice()), every, from);
     let mut book = Book::new(Phase::new(thin, shift));
-    play::play(rt, &mut book, script.as_slice())?;
+    play::show_platform(rt, platform)?;
+    play::play(rt, &mut book, platform.len() + 1, calls)?;
     Ok(())
 }
 

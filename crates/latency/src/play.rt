@@ -1,152 +1,64 @@
 // Plays a script's lines on a book, and prints what each did.
-use crate::script::Line;
-use book::{AnalysisFault, Answer, Book, Open, RouteFault, TaskFault};
-use platform::{Number, Platform, Record};
+use crate::script::{Entry, Line, Unread};
+use crate::sheet::{FigureSheet, RouteSheet};
+use book::{AnalysisFault, Book, Fault, Open};
+use path::{MAX_LENGTH, Semantics};
+use platform::{MAX_EVERY, MAX_NUMBER, Number, Platform, Record};
 use std::io;
 
-// How many marks of a stage are printed.
-const SHOWN_MARKS: u8 = 4;
-
-fn task_reason(fault: TaskFault) -> &'static str {
-    match fault {
-        TaskFault::Number => "the number is above 127",
-        TaskFault::Period => "the period is outside 100 to 1000000",
-        TaskFault::Offset => "the offset is not below the period",
-        TaskFault::Response => "the response is 0 or above the period",
-        TaskFault::Full => "32 tasks are held",
-        TaskFault::NotHeld => "the number is not held",
-        TaskFault::OnRoute => "the number is on the route",
-    }
-}
-
-fn reason(fault: RouteFault) -> &'static str {
-    match fault {
-        RouteFault::Task(fault) => task_reason(fault),
-        RouteFault::Length => "a route has 1 to 16 entries",
-        RouteFault::Absent(_) => "the entry at this place is neither held nor present",
-    }
-}
-
-fn analysis_reason(fault: AnalysisFault) -> &'static str {
-    match fault {
-        AnalysisFault::Route(fault) => reason(fault),
-        AnalysisFault::Semantics => "the semantics is above 3",
-        AnalysisFault::NoRoute => "there is no route",
-        AnalysisFault::MacroPeriod => "the macro-period is above 100000000",
-        AnalysisFault::Buffer => "the buffer is shorter than the route",
-    }
-}
-
-fn show_fault(rt: &impl Print, line: usize, fault: AnalysisFault) -> io::Result<()> {
-    let number = fault.number();
-    let place = fault.place();
-    let reason = analysis_reason(fault);
-    println!(rt; "line {line}: refused {number} place {place}: {reason}")
+// What a call that is not refused did.
+#[derive(Drop)]
+enum Outcome {
+    Entered(Number),
+    Retired(Number),
+    Routed,
+    Answered(FigureSheet),
 }
 
 // A platform's stage, by its record.
 fn show_record(rt: &impl Print, stage: usize, record: Record) -> io::Result<()> {
-    if stage > 127 {
+    if stage > MAX_NUMBER as usize {
         return println!(rt; "stage {stage}: absent, stages end at 127");
     }
     if !record.is_in_range() {
         return println!(rt; "stage {stage}: absent, its record is outside the limits");
     }
-    let Record {
-        period,
-        offset,
-        response,
-        rank,
-    } = record;
-    println!(rt; "stage {stage}: period {period} offset {offset} response {response} rank {rank}")
+    println!(rt; "stage {stage}: {record}")
 }
 
-fn show_marks<P: Platform>(
-    rt: &impl Print,
-    book: &Book<P, Open>,
-    position: usize,
-) -> io::Result<()> {
-    for a in 0..SHOWN_MARKS {
-        if let Some((start, stop)) = book.mark(position, a) {
-            print!(rt; " {start}-{stop}")?;
+fn show_unread(rt: &impl Print, at: usize, unread: Unread) -> io::Result<()> {
+    println!(rt; "line {at}: {unread}")
+}
+
+// Plays a call; a line about the platform can be none.
+fn call<P: Platform>(
+    book: &mut Book<P, Open>,
+    line: &Line,
+) -> Result<Option<Outcome>, AnalysisFault> {
+    match line {
+        Line::Stage(_) | Line::Phase(_) | Line::Thin { .. } => Ok(None),
+        Line::Enter(number, record) => {
+            book.enter(*number, *record)?;
+            Ok(Some(Outcome::Entered(*number)))
         }
-    }
-    Ok(())
-}
-
-// What a route entry names.
-fn show_entry(rt: &impl Print, entry: Number) -> io::Result<()> {
-    match entry.checked_sub(128) {
-        Some(stage) => print!(rt; "  stage {stage}:"),
-        None => print!(rt; "  task {entry}:"),
-    }
-}
-
-fn show_stage<P: Platform>(
-    rt: &impl Print,
-    book: &Book<P, Open>,
-    position: usize,
-) -> io::Result<()> {
-    let Some((cycle, count, rank)) = book.describe(position) else {
-        return Ok(());
-    };
-    print!(rt; " cycle {cycle} count {count} rank {rank} marks")?;
-    show_marks(rt, book, position)?;
-    if count > SHOWN_MARKS {
-        println!(rt; " ..")
-    } else {
-        println!(rt; "")
-    }
-}
-
-fn show_route<P: Platform>(rt: &impl Print, book: &Book<P, Open>) -> io::Result<()> {
-    let stages = book.route_len();
-    for position in 0..stages {
-        if let Some(entry) = book.entry_at(position) {
-            show_entry(rt, entry)?;
+        Line::Retire(number) => {
+            book.retire(*number)?;
+            Ok(Some(Outcome::Retired(*number)))
         }
-        show_stage(rt, book, position)?;
-    }
-    match book.macro_period() {
-        Some(period) => println!(rt; "stages {stages} macro {period}"),
-        None => println!(rt; "stages {stages} macro above 100000000"),
-    }
-}
-
-fn semantics_name(semantics: u8) -> &'static str {
-    match semantics {
-        0 => "LL",
-        1 => "LF",
-        2 => "FL",
-        _ => "FF",
-    }
-}
-
-// A figure as a sheet has it: semantics, milliseconds cut to tenths, witness and predecessor.
-fn show_answer(rt: &impl Print, semantics: u8, answer: Answer, witness: &[u64]) -> io::Result<()> {
-    let name = semantics_name(semantics);
-    let whole = answer.delay / 1000;
-    let tenth = answer.delay / 100 % 10;
-    print!(rt; "{name} {whole}.{tenth}")?;
-    for instance in witness.iter().take(answer.length) {
-        print!(rt; " {instance}")?;
-    }
-    match answer.predecessor {
-        Some(predecessor) => println!(rt; " after {predecessor}"),
-        None => println!(rt; ""),
-    }
-}
-
-fn query<P: Platform>(
-    rt: &impl Print,
-    book: &Book<P, Open>,
-    at: usize,
-    semantics: u8,
-) -> io::Result<()> {
-    let mut witness = [0; 16];
-    match book.query(semantics, &mut witness) {
-        Ok(answer) => show_answer(rt, semantics, answer, &witness),
-        Err(fault) => show_fault(rt, at, fault),
+        Line::Route(entries) => {
+            book.route(entries.as_slice())?;
+            Ok(Some(Outcome::Routed))
+        }
+        Line::Query(number) => {
+            let mut witness = [0; MAX_LENGTH];
+            let answer = book.query(*number, &mut witness)?;
+            let semantics = Semantics::try_from(*number)?;
+            Ok(Some(Outcome::Answered(FigureSheet {
+                semantics,
+                answer,
+                witness,
+            })))
+        }
     }
 }
 
@@ -156,59 +68,57 @@ fn play_line<P: Platform>(
     at: usize,
     line: &Line,
 ) -> io::Result<()> {
-    match line {
-        Line::Nothing => Ok(()),
-        Line::Stage(_) | Line::Phase(_) | Line::Thin(_, _) => {
-            println!(rt; "line {at}: not read, expected the platform only before the first call")
+    match call(book, line) {
+        Ok(Some(Outcome::Entered(number))) => println!(rt; "entered {number}"),
+        Ok(Some(Outcome::Retired(number))) => println!(rt; "retired {number}"),
+        Ok(Some(Outcome::Routed)) => println!(rt; "{}", RouteSheet { book }),
+        Ok(Some(Outcome::Answered(figure))) => println!(rt; "{figure}"),
+        Ok(None) => show_unread(rt, at, Unread("the platform only before the first call")),
+        Err(fault) => {
+            let number = fault.number();
+            let place = fault.place();
+            println!(rt; "line {at}: refused {number} place {place}: {fault}")
         }
-        Line::Unread(expected) => println!(rt; "line {at}: not read, expected {expected}"),
-        Line::Enter(number, record) => match book.enter(*number, *record) {
-            Ok(()) => println!(rt; "entered {number}"),
-            Err(fault) => show_fault(rt, at, AnalysisFault::Route(RouteFault::Task(fault))),
-        },
-        Line::Retire(number) => match book.retire(*number) {
-            Ok(()) => println!(rt; "retired {number}"),
-            Err(fault) => show_fault(rt, at, AnalysisFault::Route(RouteFault::Task(fault))),
-        },
-        Line::Route(entries) => match book.route(entries.as_slice()) {
-            Ok(()) => show_route(rt, book),
-            Err(fault) => show_fault(rt, at, AnalysisFault::Route(fault)),
-        },
-        Line::Query(semantics) => query(rt, book, at, *semantics),
     }
 }
 
-// A layer on the platform's stages.
-fn show_layer(rt: &impl Print, line: &Line) -> io::Result<()> {
-    match line {
-        Line::Phase(shift) => println!(rt; "phase {shift}"),
-        Line::Thin(every, from) if *every < 1 || *every > 16 || *from >= *every => {
-            println!(rt; "thin {every} {from}: no stages")
+// Prints the platform's stages and layers, as its lines give them.
+pub fn show_platform(rt: &impl Print, platform: &[Entry]) -> io::Result<()> {
+    // counts the stages, which stand among other lines
+    let mut stages: usize = 0;
+    for (i, entry) in platform.iter().enumerate() {
+        match entry {
+            Ok(Some(Line::Stage(record))) => {
+                show_record(rt, stages, *record)?;
+                stages = stages.saturating_add(1);
+            }
+            Ok(Some(Line::Phase(shift))) => println!(rt; "phase {shift}")?,
+            Ok(Some(Line::Thin { every, from }))
+                if *every < 1 || *every > MAX_EVERY || *from >= *every => {
+                println!(rt; "thin {every} {from}: no stages")?
+            }
+            Ok(Some(Line::Thin { every, from })) => println!(rt; "thin {every} {from}")?,
+            Ok(_) => {}
+            Err(unread) => show_unread(rt, i + 1, *unread)?,
         }
-        Line::Thin(every, from) => println!(rt; "thin {every} {from}"),
-        _ => Ok(()),
     }
+    Ok(())
 }
 
-// Plays the lines in order; a refused or unread line changes nothing, and the rest goes on.
+// Plays the lines in order, of which the first is line `first` of the script; a refused or unread line changes
+// nothing, and the rest goes on.
 pub fn play<P: Platform>(
     rt: &impl Print,
     book: &mut Book<P, Open>,
-    script: &[Line],
+    first: usize,
+    calls: &[Entry],
 ) -> io::Result<()> {
-    let mut stages: usize = 0;
-    let mut called = false;
-    for (i, line) in script.iter().enumerate() {
-        if let Line::Stage(record) = line
-            && !called
-        {
-            show_record(rt, stages, *record)?;
-            stages = stages.saturating_add(1);
-        } else if line.is_layer() && !called {
-            show_layer(rt, line)?;
-        } else {
-            called = called || line.is_call();
-            play_line(rt, book, i + 1, line)?;
+    for (i, entry) in calls.iter().enumerate() {
+        let at = first.saturating_add(i);
+        match entry {
+            Ok(Some(line)) => play_line(rt, book, at, line)?,
+            Ok(None) => {}
+            Err(unread) => show_unread(rt, at, *unread)?,
         }
     }
     Ok(())

@@ -1,44 +1,64 @@
 // Scripts: one call to a line, and `#` begins a comment.
+use path::Semantics;
 use platform::{Number, Record};
-use std::alloc::{AllocError, Global};
+use std::alloc::{AllocError, AllocFailed, Global};
+use std::str::{FromStr, SplitWhitespace};
+use thiserror::Error;
 
 // What a line asks for.
 #[derive(Drop)]
 pub enum Line {
-    // an empty line, or only a comment
-    Nothing,
     // the record of the platform's next stage
     Stage(Record),
     // the shift of the phase that stands on the platform
     Phase(u32),
     // the thin that stands on the stages, under the phase: one instance of so many, counted from this one
-    Thin(u32, u32),
+    Thin { every: u32, from: u32 },
     Enter(Number, Record),
     Retire(Number),
     Route(Vec<Number>),
-    // a semantics by its number
+    // a semantics by its number, which the query judges
     Query(u8),
-    // the line cannot be read; this was expected
-    Unread(&'static str),
 }
 
 impl Line {
-    // Whether the line puts a layer on the platform.
-    pub fn is_layer(&self) -> bool {
-        matches!(self, Line::Phase(_) | Line::Thin(_, _))
-    }
-
-    // Whether the line is a call on the book.
-    pub fn is_call(&self) -> bool {
+    // Whether the line is a call on the book; otherwise it is about the platform.
+    fn is_call(&self) -> bool {
         match self {
+            Line::Stage(_) | Line::Phase(_) | Line::Thin { .. } => false,
             Line::Enter(_, _) | Line::Retire(_) | Line::Route(_) | Line::Query(_) => true,
-            Line::Nothing | Line::Stage(_) | Line::Phase(_) | Line::Thin(_, _) | Line::Unread(_) =>
-                false,
         }
     }
 }
 
-// What a call looks like that begins with this word.
+// A line that cannot be read, by what was expected in its place.
+#[derive(Clone, Copy, Debug, Error)]
+#[error("not read, expected {0}")]
+pub struct Unread(pub &'static str);
+
+// What stands in a line of the script: nothing where it is empty or only a comment.
+pub type Entry = Result<Option<Line>, Unread>;
+
+// Why a line is not taken in.
+#[derive(Drop)]
+enum ReadError {
+    Unread(Unread),
+    Memory(AllocError),
+}
+
+impl From<Unread> for ReadError {
+    fn from(unread: Unread) -> ReadError {
+        ReadError::Unread(unread)
+    }
+}
+
+impl<T: Drop> From<AllocFailed<T>> for ReadError {
+    fn from(failed: AllocFailed<T>) -> ReadError {
+        ReadError::Memory(failed.into())
+    }
+}
+
+// What a line looks like that begins with this word.
 fn expected(verb: &str) -> &'static str {
     match verb {
         "stage" => "stage PERIOD OFFSET RESPONSE RANK",
@@ -52,140 +72,89 @@ fn expected(verb: &str) -> &'static str {
     }
 }
 
-// A record, where the rank fits a byte.
-fn record(period: u32, offset: u32, response: u32, rank: u32) -> Option<Record> {
-    let rank = u8::try_from(rank).ok()?;
-    Some(Record {
-        period,
-        offset,
-        response,
-        rank,
-    })
+// The words of a line after its first.
+#[derive(Drop)]
+struct Words<'a> {
+    rest: SplitWhitespace<'a>,
+    expected: &'static str,
 }
 
-fn stage_line(numbers: &[u32]) -> Option<Line> {
-    let [period, offset, response, rank] = numbers else {
-        return None;
-    };
-    Some(Line::Stage(record(*period, *offset, *response, *rank)?))
-}
-
-fn phase_line(numbers: &[u32]) -> Option<Line> {
-    let [shift] = numbers else {
-        return None;
-    };
-    Some(Line::Phase(*shift))
-}
-
-fn thin_line(numbers: &[u32]) -> Option<Line> {
-    let [every, from] = numbers else {
-        return None;
-    };
-    Some(Line::Thin(*every, *from))
-}
-
-fn enter_line(numbers: &[u32]) -> Option<Line> {
-    let [number, period, offset, response, rank] = numbers else {
-        return None;
-    };
-    let number = u8::try_from(*number).ok()?;
-    Some(Line::Enter(number, record(*period, *offset, *response, *rank)?))
-}
-
-fn retire_line(numbers: &[u32]) -> Option<Line> {
-    let [number] = numbers else {
-        return None;
-    };
-    Some(Line::Retire(u8::try_from(*number).ok()?))
-}
-
-// The entries of a route, where each fits a byte.
-fn entries(heap: Global, numbers: &[u32]) -> Result<Option<Vec<Number>>, AllocError> {
-    let mut entries = Vec::new(heap);
-    for number in numbers {
-        let Ok(entry) = u8::try_from(*number) else {
-            return Ok(None);
-        };
-        entries.push(entry)?;
+impl Words<'_> {
+    fn unread(&self) -> Unread {
+        Unread(self.expected)
     }
-    Ok(Some(entries))
-}
 
-fn route_line(heap: Global, numbers: &[u32]) -> Result<Option<Line>, AllocError> {
-    match entries(heap, numbers)? {
-        Some(entries) => Ok(Some(Line::Route(entries))),
-        None => Ok(None),
+    // The next word, as a number that fits `T`.
+    fn number<T: FromStr>(&mut self) -> Result<T, Unread>
+    where
+        T::Err: Drop,
+    {
+        let word = self.rest.next().ok_or(self.unread())?;
+        word.parse().map_err(|_| self.unread())
     }
-}
 
-// The words after the first, as numbers.
-fn numbers(heap: Global, text: &str) -> Result<Option<Vec<u32>>, AllocError> {
-    let mut numbers = Vec::new(heap);
-    for word in text.split_whitespace().skip(1) {
-        let Ok(number) = word.parse::<u32>() else {
-            return Ok(None);
-        };
-        numbers.push(number)?;
+    fn record(&mut self) -> Result<Record, Unread> {
+        Ok(Record {
+            period: self.number()?,
+            offset: self.number()?,
+            response: self.number()?,
+            rank: self.number()?,
+        })
     }
-    Ok(Some(numbers))
-}
 
-fn call_line(heap: Global, verb: &str, numbers: &[u32]) -> Result<Option<Line>, AllocError> {
-    match verb {
-        "stage" => Ok(stage_line(numbers)),
-        "phase" => Ok(phase_line(numbers)),
-        "thin" => Ok(thin_line(numbers)),
-        "enter" => Ok(enter_line(numbers)),
-        "retire" => Ok(retire_line(numbers)),
-        "route" => route_line(heap, numbers),
-        _ => Ok(None),
+    // The number of a semantics, given by its name or as a number.
+    fn semantics(&mut self) -> Result<u8, Unread> {
+        let word = self.rest.next().ok_or(self.unread())?;
+        match word.parse::<Semantics>() {
+            Ok(semantics) => Ok(semantics.into()),
+            Err(_) => word.parse().map_err(|_| self.unread()),
+        }
     }
-}
 
-// The number of a semantics, given by its name or as a number.
-fn semantics(word: &str) -> Option<u8> {
-    match word {
-        "LL" => Some(0),
-        "LF" => Some(1),
-        "FL" => Some(2),
-        "FF" => Some(3),
-        _ => word.parse::<u8>().ok(),
+    // All words that are left, as route entries.
+    fn entries(&mut self, heap: Global) -> Result<Vec<Number>, ReadError> {
+        let mut entries = Vec::new(heap);
+        for word in &mut self.rest {
+            let Ok(entry) = word.parse() else {
+                return Err(Unread(self.expected).into());
+            };
+            entries.push(entry)?;
+        }
+        Ok(entries)
     }
-}
 
-fn query_line(text: &str) -> Option<Line> {
-    let mut words = text.split_whitespace().skip(1);
-    let number = semantics(words.next()?)?;
-    if words.next().is_some() {
-        return None;
-    }
-    Some(Line::Query(number))
-}
-
-// A line that begins with a word, where it can be read.
-fn verb_line(heap: Global, verb: &str, text: &str) -> Result<Option<Line>, AllocError> {
-    if verb == "query" {
-        return Ok(query_line(text));
-    }
-    match numbers(heap, text)? {
-        Some(numbers) => call_line(heap, verb, numbers.as_slice()),
-        None => Ok(None),
+    fn end(&mut self) -> Result<(), Unread> {
+        match self.rest.next() {
+            Some(_) => Err(self.unread()),
+            None => Ok(()),
+        }
     }
 }
 
 // One line of the script.
-fn read_line(heap: Global, text: &str) -> Result<Line, AllocError> {
-    let text = match text.split_once('#') {
-        Some((before, _)) => before,
-        None => text,
+fn read_line(heap: Global, text: &str) -> Result<Option<Line>, ReadError> {
+    let text = text.split_once('#').map_or(text, |(before, _)| before);
+    let mut rest = text.split_whitespace();
+    let Some(verb) = rest.next() else {
+        return Ok(None);
     };
-    let Some(verb) = text.split_whitespace().next() else {
-        return Ok(Line::Nothing);
+    let expected = expected(verb);
+    let mut words = Words { rest, expected };
+    let line = match verb {
+        "stage" => Line::Stage(words.record()?),
+        "phase" => Line::Phase(words.number()?),
+        "thin" => Line::Thin {
+            every: words.number()?,
+            from: words.number()?,
+        },
+        "enter" => Line::Enter(words.number()?, words.record()?),
+        "retire" => Line::Retire(words.number()?),
+        "route" => Line::Route(words.entries(heap)?),
+        "query" => Line::Query(words.semantics()?),
+        _ => return Err(Unread(expected).into()),
     };
-    match verb_line(heap, verb, text)? {
-        Some(line) => Ok(line),
-        None => Ok(Line::Unread(expected(verb))),
-    }
+    words.end()?;
+    Ok(Some(line))
 }
 
 // The bytes as text, a character each, so that no byte makes a script unreadable as a whole.
@@ -198,30 +167,38 @@ pub fn as_text(heap: Global, bytes: &[u8]) -> Result<String, AllocError> {
 }
 
 // The lines of a script, in order.
-pub fn read(heap: Global, text: &str) -> Result<Vec<Line>, AllocError> {
-    let mut lines = Vec::new(heap);
+pub fn read(heap: Global, text: &str) -> Result<Vec<Entry>, AllocError> {
+    let mut entries = Vec::new(heap);
     for line in text.lines() {
-        lines.push(read_line(heap, line)?)?;
+        entries.push(match read_line(heap, line) {
+            Ok(line) => Ok(line),
+            Err(ReadError::Unread(unread)) => Err(unread),
+            Err(ReadError::Memory(error)) => return Err(error),
+        })?;
     }
-    Ok(lines)
+    Ok(entries)
 }
 
-// The records of the platform's stages, which stand before the first call.
-pub fn platform_records(heap: Global, script: &[Line]) -> Result<Vec<Record>, AllocError> {
+// The lines before the first call, which are about the platform, and the others.
+pub fn parts(script: &[Entry]) -> (&[Entry], &[Entry]) {
+    let calls = script
+        .iter()
+        .position(|entry| matches!(entry, Ok(Some(line)) if line.is_call()));
+    script.split_at(calls.unwrap_or(script.len()))
+}
+
+// The records of the platform's stages.
+pub fn records_of(heap: Global, platform: &[Entry]) -> Result<Vec<Record>, AllocError> {
     let mut records = Vec::new(heap);
-    for line in script {
-        if line.is_call() {
-            return Ok(records);
-        }
-        if let Line::Stage(record) = line {
+    for entry in platform {
+        if let Ok(Some(Line::Stage(record))) = entry {
             records.push(*record)?;
         }
     }
     Ok(records)
 }
 
-// The layers that stand on the platform's stages: the last of each kind before the first call. Without one, the phase
-// shifts by nothing and the thin takes every instance.
+// The layers that stand on the platform's stages: the last line of each kind counts.
 #[derive(Clone, Copy)]
 pub struct Layers {
     pub shift: u32,
@@ -229,25 +206,30 @@ pub struct Layers {
     pub from: u32,
 }
 
-pub fn platform_layers(script: &[Line]) -> Layers {
-    let mut layers = Layers {
-        shift: 0,
-        every: 1,
-        from: 0,
-    };
-    for line in script {
-        match line {
-            Line::Phase(shift) => layers.shift = *shift,
-            Line::Thin(every, from) => {
-                layers.every = *every;
-                layers.from = *from;
-            }
-            _ => {
-                if line.is_call() {
-                    return layers;
-                }
-            }
+// Without a line, the phase shifts by nothing and the thin takes every instance.
+impl Default for Layers {
+    fn default() -> Layers {
+        Layers {
+            shift: 0,
+            every: 1,
+            from: 0,
         }
     }
-    layers
+}
+
+pub fn layers_of(platform: &[Entry]) -> Layers {
+    platform
+        .iter()
+        .fold(Layers::default(), |layers, entry| match entry {
+            Ok(Some(Line::Phase(shift))) => Layers {
+                shift: *shift,
+                ..layers
+            },
+            Ok(Some(Line::Thin { every, from })) => Layers {
+                every: *every,
+                from: *from,
+                ..layers
+            },
+            _ => layers,
+        })
 }

@@ -4,22 +4,17 @@
 
 mod walk;
 
+use anyhow::Context;
 use path::{Delay, Semantics, largest_delay};
-use stage::{LawfulRow, MAX_MARKS, Row};
+use stage::{LawfulRow, Row};
 use std::env;
 use std::time::Instant;
 
 // A stage that starts with its cycle and runs for `length` microseconds.
-fn one_mark(cycle: u32, length: u32) -> Option<LawfulRow> {
-    let mut stops = [0; MAX_MARKS];
-    stops[0] = length;
-    LawfulRow::new(Row {
-        cycle,
-        count: 1,
-        rank: 1,
-        starts: [0; MAX_MARKS],
-        stops,
-    })
+fn one_mark(cycle: u32, length: u32) -> anyhow::Result<LawfulRow> {
+    Row::of_marks(cycle, 1, &[(0, length)])
+        .and_then(LawfulRow::new)
+        .context("a row is against the laws")
 }
 
 // Times both ways on one route; the walk takes one macro-period of the last stage's instances and some more, since the
@@ -32,10 +27,10 @@ fn time_both(rt: &HostRuntime, rows: &[LawfulRow], count: u64) -> anyhow::Result
     let start = Instant::now(rt)?;
     let walked = walk::largest(rows, count);
     let walk = start.elapsed(rt)?;
-    let searched = match answer {
-        Ok(Delay { delay, .. }) => delay,
-        Err(_) => 0,
-    };
+    let Delay {
+        delay: searched,
+        ..
+    } = answer?;
     let stages = rows.len();
     let ratio = walk.as_micros().saturating_mul(100) / search.as_micros().max(1);
     let whole = ratio / 100;
@@ -57,15 +52,9 @@ fn tell(rt: &HostRuntime, rows: &[LawfulRow]) -> anyhow::Result<()> {
 }
 
 fn main(rt: HostRuntime) -> anyhow::Result<()> {
-    let Some(first) = one_mark(9_999, 500) else {
-        return Ok(());
-    };
-    let Some(second) = one_mark(10_000, 700) else {
-        return Ok(());
-    };
-    let Some(third) = one_mark(1, 1) else {
-        return Ok(());
-    };
+    let first = one_mark(9_999, 500)?;
+    let second = one_mark(10_000, 700)?;
+    let third = one_mark(1, 1)?;
     let pair = [first, second];
     let three = [first, second, third];
     if env::args(&rt)?.count() > 1 {

@@ -1,4 +1,5 @@
-// The plain way to the largest delay: every instance of the last stage, each followed back to the first stage.
+// The plain way to the largest delay: every instance of the last stage, each followed back to the first stage. It shares
+// no step with the search, which it is measured beside.
 use stage::LawfulRow;
 
 // The instance of the writer that the reader's instance at `time` reads from.
@@ -15,21 +16,18 @@ fn writer_at(writer: &LawfulRow, waits: bool, time: u64) -> Option<u64> {
 fn delay_to(rows: &[LawfulRow], j: u64) -> Option<u64> {
     let last = rows.last()?;
     let mut time = last.start(j)?;
-    for k in (1..rows.len()).rev() {
-        let waits = rows[k].row().rank < rows[k - 1].row().rank;
-        let i = writer_at(&rows[k - 1], waits, time)?;
-        time = rows[k - 1].start(i)?;
+    for [writer, reader] in rows.array_windows::<2>().rev() {
+        let waits = reader.row().rank < writer.row().rank;
+        let i = writer_at(writer, waits, time)?;
+        time = writer.start(i)?;
     }
     last.stop(j)?.checked_sub(time)
 }
 
 // The largest delay of the paths that end with one of the first `count` instances of the last stage.
 pub fn largest(rows: &[LawfulRow], count: u64) -> u64 {
-    let mut largest = 0;
-    for j in 0..count {
-        if let Some(delay) = delay_to(rows, j) {
-            largest = delay.max(largest);
-        }
-    }
-    largest
+    (0..count)
+        .filter_map(|j| delay_to(rows, j))
+        .max()
+        .unwrap_or(0)
 }

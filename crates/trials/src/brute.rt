@@ -1,10 +1,8 @@
 // Figures straight from their definition: every path that ends before a horizon is followed back, instance by instance.
-use path::Semantics;
+// It shares nothing with the search but the rows, so that the two can be compared.
+use path::{Delay, Semantics};
 use stage::LawfulRow;
 use std::alloc::{AllocError, Global};
-
-// The most stages of a route.
-pub const MOST: usize = 6;
 
 // Several times as long as any route takes to repeat.
 const HORIZON: u64 = 960;
@@ -22,21 +20,20 @@ struct Stage {
 }
 
 // A timed path: its instances, and when it begins and ends.
-#[derive(Clone, Copy)]
+#[derive(Drop)]
 pub struct Path {
-    pub numbers: [u64; MOST],
+    pub numbers: Vec<u64>,
     first: u64,
     last: u64,
     begin: u64,
     end: u64,
 }
 
-// A figure.
+// A figure, with the path that has it.
 #[derive(Clone, Copy)]
-pub struct Found {
-    pub delay: u64,
-    pub predecessor: Option<u64>,
-    pub path: Path,
+pub struct Found<'a> {
+    pub delay: Delay,
+    pub path: &'a Path,
 }
 
 impl Stage {
@@ -73,32 +70,30 @@ impl Stage {
     // The instance that reaches instance `j` of the reader: it goes forward to it, and the next one does not.
     fn reaching(&self, reader: &Stage, j: u64) -> Option<u64> {
         let read = reader.instances.get(j as usize)?;
-        let writers = self.instances.as_slice();
-        for i in 1..writers.len() {
-            if self.goes_forward(reader, &writers[i - 1], read)
-                && !self.goes_forward(reader, &writers[i], read)
-            {
-                return Some((i - 1) as u64);
-            }
-        }
-        None
+        self.instances
+            .as_slice()
+            .array_windows::<2>()
+            .position(|[this, next]| {
+                self.goes_forward(reader, this, read) && !self.goes_forward(reader, next, read)
+            })
+            .map(|i| i as u64)
     }
 }
 
 // The instances of the path that ends at instance `j` of the last stage, if there is one.
-fn path_to(stages: &[Stage], j: u64) -> Option<[u64; MOST]> {
-    let n = stages.len();
-    if n == 0 || n > MOST {
-        return None;
-    }
-    let mut numbers = [0; MOST];
+fn path_to(heap: Global, stages: &[Stage], j: u64) -> Result<Option<Vec<u64>>, AllocError> {
+    let mut numbers = Vec::new(heap);
     let mut at = j;
-    numbers[n - 1] = j;
-    for k in (0..n - 1).rev() {
-        at = stages[k].reaching(&stages[k + 1], at)?;
-        numbers[k] = at;
+    numbers.push(at)?;
+    for [writer, reader] in stages.array_windows::<2>().rev() {
+        let Some(i) = writer.reaching(reader, at) else {
+            return Ok(None);
+        };
+        at = i;
+        numbers.push(at)?;
     }
-    Some(numbers)
+    numbers.reverse();
+    Ok(Some(numbers))
 }
 
 // All paths that end with an instance that starts before the horizon, in the order of their ends.
@@ -115,14 +110,16 @@ pub fn paths_of(heap: Global, rows: &[LawfulRow]) -> Result<Vec<Path>, AllocErro
         if end.start >= HORIZON {
             break;
         }
-        let Some(numbers) = path_to(stages.as_slice(), j as u64) else {
+        let last = j as u64;
+        let Some(numbers) = path_to(heap, stages.as_slice(), last)? else {
             continue;
         };
-        if let Some(begin) = writer.instances.get(numbers[0] as usize) {
+        let first = numbers.first().copied().unwrap_or(last);
+        if let Some(begin) = writer.instances.get(first as usize) {
             paths.push(Path {
                 numbers,
-                first: numbers[0],
-                last: j as u64,
+                first,
+                last,
                 begin: begin.start,
                 end: end.stop,
             })?;
@@ -133,60 +130,53 @@ pub fn paths_of(heap: Global, rows: &[LawfulRow]) -> Result<Vec<Path>, AllocErro
 
 // Whether no path with the same first instance has a smaller last instance.
 fn is_soonest(paths: &[Path], path: &Path) -> bool {
-    for other in paths {
-        if other.first == path.first && other.last < path.last {
-            return false;
-        }
-    }
-    true
+    paths.iter().all(|other| other.first != path.first || other.last >= path.last)
 }
 
-// The largest first instance below that of the path, and when it starts.
-fn before(paths: &[Path], path: &Path) -> Option<(u64, u64)> {
-    let mut best = None;
-    for other in paths {
-        if other.first >= path.first {
-            continue;
-        }
-        match best {
-            Some((first, _)) if other.first <= first => {}
-            _ => best = Some((other.first, other.begin)),
-        }
-    }
-    best
+// A path with the largest first instance below that of the path.
+fn before<'a>(paths: &'a [Path], path: &Path) -> Option<&'a Path> {
+    paths
+        .iter()
+        .filter(|other| other.first < path.first)
+        .max_by_key(|other| other.first)
 }
 
 // The path's delay, where it counts.
-fn counted(paths: &[Path], path: &Path, semantics: Semantics) -> Option<Found> {
-    match semantics {
-        Semantics::LF | Semantics::FF if !is_soonest(paths, path) => None,
-        Semantics::LL | Semantics::LF => Some(Found {
-            delay: path.end.saturating_sub(path.begin),
-            predecessor: None,
-            path: *path,
-        }),
+fn counted<'a>(paths: &'a [Path], path: &'a Path, semantics: Semantics) -> Option<Found<'a>> {
+    let (begin, predecessor) = match semantics {
+        Semantics::LF | Semantics::FF if !is_soonest(paths, path) => return None,
+        Semantics::LL | Semantics::LF => (path.begin, None),
         Semantics::FL | Semantics::FF => {
-            let (first, start) = before(paths, path)?;
-            Some(Found {
-                delay: path.end.saturating_sub(start),
-                predecessor: Some(first),
-                path: *path,
-            })
+            let before = before(paths, path)?;
+            (before.begin, Some(before.first))
         }
+    };
+    let delay = path.end.saturating_sub(begin);
+    Some(Found {
+        delay: Delay { delay, predecessor },
+        path,
+    })
+}
+
+// The one with the larger delay, and of equal ones the one that ends first.
+fn larger<'a>(best: Found<'a>, found: Found<'a>) -> Found<'a> {
+    let longer = found.delay.delay > best.delay.delay;
+    if longer || found.delay.delay == best.delay.delay && found.path.last < best.path.last {
+        found
+    } else {
+        best
     }
 }
 
 // The largest delay of the paths that count, and of those that have it the one that ends first.
-pub fn figure(paths: &[Path], semantics: Semantics) -> Option<Found> {
-    let mut best: Option<Found> = None;
+pub fn figure(paths: &[Path], semantics: Semantics) -> Option<Found<'_>> {
+    let mut best = None;
     for path in paths {
-        let Some(found) = counted(paths, path, semantics) else {
-            continue;
-        };
-        match best {
-            Some(old) if found.delay < old.delay => {}
-            Some(old) if found.delay == old.delay && found.path.last >= old.path.last => {}
-            _ => best = Some(found),
+        if let Some(found) = counted(paths, path, semantics) {
+            best = Some(match best {
+                Some(best) => larger(best, found),
+                None => found,
+            });
         }
     }
     best

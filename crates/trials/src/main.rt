@@ -4,8 +4,8 @@
 mod brute;
 mod random;
 
-use brute::{Found, MOST};
-use path::{Delay, Semantics, largest_delay};
+use brute::Found;
+use path::{MAX_LENGTH, Semantics, largest_delay};
 use random::Random;
 use stage::LawfulRow;
 
@@ -15,22 +15,15 @@ const ROUTES: u32 = 2_000;
 const UNTOUCHED: u64 = 77;
 
 // Whether the search answers the figure, fills the front of the buffer with its path and leaves the rest.
-fn agrees(rows: &[LawfulRow], semantics: Semantics, expected: &Found) -> bool {
-    let mut witness = [UNTOUCHED; MOST];
-    let Ok(Delay { delay, predecessor }) = largest_delay(rows, semantics, &mut witness) else {
+fn agrees(rows: &[LawfulRow], semantics: Semantics, expected: &Found<'_>) -> bool {
+    let mut witness = [UNTOUCHED; MAX_LENGTH];
+    let answer = largest_delay(rows, semantics, &mut witness);
+    let Some((path, rest)) = witness.split_at_checked(rows.len()) else {
         return false;
     };
-    for (k, found) in witness.iter().enumerate() {
-        let number = if k < rows.len() {
-            expected.path.numbers[k]
-        } else {
-            UNTOUCHED
-        };
-        if *found != number {
-            return false;
-        }
-    }
-    delay == expected.delay && predecessor == expected.predecessor
+    answer == Ok(expected.delay)
+        && path == expected.path.numbers.as_slice()
+        && rest.iter().all(|number| *number == UNTOUCHED)
 }
 
 fn main(rt: HostRuntime) -> anyhow::Result<()> {
@@ -40,17 +33,17 @@ fn main(rt: HostRuntime) -> anyhow::Result<()> {
     for route in 0..ROUTES {
         let rows = random.route(rt.alloc())?;
         let paths = brute::paths_of(rt.alloc(), rows.as_slice())?;
-        for number in 0..4 {
-            let Some(semantics) = Semantics::from_number(number) else {
-                continue;
-            };
+        for semantics in [Semantics::LL, Semantics::LF, Semantics::FL, Semantics::FF] {
             compared = compared.saturating_add(1);
             match brute::figure(paths.as_slice(), semantics) {
                 Some(found) if agrees(rows.as_slice(), semantics, &found) => agreed =
                     agreed.saturating_add(1),
-                _ => println!(rt;
-                    "route {route}, semantics {number}: the search and the definition differ"
-                )?,
+                _ => {
+                    let number = u8::from(semantics);
+                    println!(rt;
+                        "route {route}, semantics {number}: the search and the definition differ"
+                    )?
+                }
             }
         }
     }

@@ -1,5 +1,5 @@
 // Routes made at random, the same in every run.
-use stage::{LawfulRow, MAX_MARKS, Row};
+use stage::{LawfulRow, Row};
 use std::alloc::{AllocError, Global};
 
 // All of them divide 120, so that every route repeats after 120 microseconds.
@@ -26,44 +26,31 @@ impl Random {
     }
 
     // A stage of up to four marks. The first starts anywhere in the cycle, and the last may stop in the next one.
-    fn row(&mut self) -> Row {
+    fn row(&mut self, heap: Global) -> Result<Option<Row>, AllocError> {
         let cycle = CYCLES[(self.draw() % 12) as usize];
         let first = self.draw() % cycle.max(1);
         let end = cycle.saturating_add(first);
-        let mut starts = [0; MAX_MARKS];
-        let mut stops = [0; MAX_MARKS];
-        let mut count = 0;
-        let mut free = first;
-        for a in 0..4u8 {
-            let start = if a == 0 {
-                first
-            } else {
-                free.saturating_add(self.draw() % 3)
+        let mut marks: Vec<(u32, u32)> = Vec::new(heap);
+        for a in 0..4 {
+            let start = match marks.last() {
+                None => first,
+                Some((_, free)) => free.saturating_add(self.draw() % 3),
             };
-            if start >= cycle || self.draw() % 4 < a as u32 {
+            if start >= cycle || self.draw() % 4 < a {
                 break;
             }
             let stop = end.min(start.saturating_add(1 + self.draw() % 4));
-            starts[a as usize] = start;
-            stops[a as usize] = stop;
-            count = a + 1;
-            free = stop;
+            marks.push((start, stop))?;
         }
         let rank = (self.draw() % 3) as u8;
-        Row {
-            cycle,
-            count,
-            rank,
-            starts,
-            stops,
-        }
+        Ok(Row::of_marks(cycle, rank, marks.as_slice()))
     }
 
     // A route of 1 to 6 stages.
     pub fn route(&mut self, heap: Global) -> Result<Vec<LawfulRow>, AllocError> {
         let mut rows = Vec::new(heap);
         for _ in 0..1 + self.draw() % 6 {
-            if let Some(row) = LawfulRow::new(self.row()) {
+            if let Some(row) = self.row(heap)?.and_then(LawfulRow::new) {
                 rows.push(row)?;
             }
         }

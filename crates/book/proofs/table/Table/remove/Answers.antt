@@ -10,11 +10,3 @@ returns-in-Some c = λ distinct ranged.
       distinct = emptied_distinct slots c.in-Some.slot distinct;
       ranged = emptied_ranged slots c.in-Some.slot ranged;
     }
-
-pub returns-in_default : goal.returns-in_default
-returns-in_default c = λ distinct ranged.
-    record {
-      held = absent_held c.args.self.now.slots c.args.number c.in_default.ensures.found;
-      distinct = distinct;
-      ranged = ranged;
-    }

@@ -12,11 +12,6 @@ invariant_of-self g c =
           put.distinct (put.ranged low c.in_ok-record.«record».lawful) put.held ∣₁;
     }
 
-pub returns-in_err-record : goal.returns-in_err-record
-returns-in_err-record g c =
-    let refused = record_refused c.args.«record» c.in_err-record.field-0.0 c.in_err-record.ensures.0 in
-    search rules
-
 pub returns : goal.returns
 returns g c =
     let keeps = kept _ _ c.args.self.now.keeps in
