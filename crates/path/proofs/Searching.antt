@@ -259,12 +259,11 @@ module _ (m : Semantics) (route : Route) (span end : ℕ) (block : Block) (best 
       (delay_of best) (origin_of best) (last_of best) v.visit
       (origin_none m (first_block (route_of (stages_along block.route))) block.begin block.before v.before e)
 
-  -- and on to the next block, with the best that is then known
-  pub reached_next : (next : Block) (best' : Option Longest) → next.route ≡ block.route
+  on : (next : Block) (best' : Option Longest) → next.route ≡ block.route
       → next.begin ≡ next_block (route_of (stages_along block.route)) block.begin → next.before ≡ Some block.begin
       → Visit m (stages_along block.route) (next_block (route_of (stages_along block.route)) block.begin) block.begin (delay_of best') (origin_of best') (last_of best')
       → Reached m route span end next best'
-  reached_next next best' along begin before w =
+  on next best' along begin before w =
       let later : first_block (route_of (stages_along block.route)) < next.begin =
       omega (arith, begin, v.visit.reached, next_after (stages_along block.route) (some block.route) (laws block.route) block.begin) in
       record {
@@ -279,6 +278,14 @@ module _ (m : Semantics) (route : Route) (span end : ℕ) (block : Block) (best 
             (subst (λ p. Visit m (stages_along block.route) (next_block (route_of (stages_along block.route)) block.begin) (unwrap_or p 0)
             (delay_of best') (origin_of best') (last_of best')) (sym before) w));
       }
+
+  -- and on to the next block, with the best that is then known
+  pub reached_next : (next : Block) (known best' : Option Longest) → next.route ≡ block.route
+      → next.begin ≡ next_block (route_of (stages_along block.route)) block.begin → next.before ≡ Some block.begin → best' ≡ known
+      → Visit m (stages_along block.route) (next_block (route_of (stages_along block.route)) block.begin) block.begin (delay_of known) (origin_of known) (last_of known)
+      → Reached m route span end next best'
+  reached_next next known best' along begin before is w =
+      subst (Reached m route span end next) (sym is) (on next known along begin before w)
 
   pub on_time : span ≤ 100_000_000 → block.begin ≤ end
       → start_of (first_stage (stages_along block.route)) (next_block (route_of (stages_along block.route)) block.begin + 1) < 2 ^ 36

@@ -6,11 +6,10 @@ use Rattle.std.proofs.lemmas.List.{length-take-le, get_or-take, get_or-drop, tak
 use Rattle.stage.specs.Stages.{Stage, start_of}
 use Rattle.stage.specs.declared.lawful.LawfulRow.{LawfulRow}
 use Rattle.path.specs.Given.{stage_in, stages_of}
-use Rattle.path.specs.Timed.{last_or, first_stage, last_stage, no_stage, first_of}
+use Rattle.path.specs.Timed.{last_or, first_stage, last_stage, first_of}
 use Rattle.path.specs.Steps.{Hop, ahead_of, back_of, hops_from, hop_along, route_of, trace_back, witness_to}
-use Rattle.path.proofs.Given.{all_laws, laws_in, stage_at, stages_length}
+use Rattle.path.proofs.Given.{all_laws, last_at, laws_in, stages_length}
 use Rattle.path.proofs.Routes.{positive_inside}
-use Rattle.path.proofs.Rows.{last_stage_at}
 use Rattle.path.proofs.Search.{tied}
 use Rattle.path.proofs.Sizes.{ahead_soon, back_earlier}
 
@@ -154,9 +153,8 @@ module _ (rows front pair : List LawfulRow) (size : ℕ) (two : size ≡ 2) (roo
 
   writer_is : last_stage (stages_of before) ≡ writer
   writer_is =
-      last_stage_at (stages_of before) (length front - 2) (omega (arith, stages_length before, long))
-      ∙ stage_at before (length front - 2) a no_stage (omega (arith, long))
-      ∙ ap stage_in (get_or-take (length front - 1) front (length front - 2) a (omega arith)
+      last_at before a (omega (arith, long))
+      ∙ ap stage_in (ap (λ n. get_or before n a) (omega (arith, long)) ∙ get_or-take (length front - 1) front (length front - 2) a (omega arith)
       ∙ ap (λ n. get_or front n a) (omega arith) ∙ sym (row_at 0 a))
 
   steps_is : (c : ℕ) → (route_of (stages_of front)).back c ≡ (route_of (stages_of before)).back (back_of writer reader c)
