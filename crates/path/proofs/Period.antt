@@ -106,24 +106,16 @@ module _ (h : Hop) (t : Tied h) (begin finish : ℕ → ℕ) (n m period : ℕ) 
         counts = takes_down s (f - n) (j - m) (o - n) a';
       }
 
-  -- what holds of every path that begins up to the first block moved, or sooner than `upto`, holds of all
-  all_largest : (s : Semantics) (upto d o l : ℕ) → BestSoFar s h begin finish upto d o l → first_block h + n < upto → (fuel f j q : ℕ) → f < fuel → Takes s h f j q → finish j - begin q ≤ d
-  all_largest s upto d o l b far zero f j q w a = absurd (omega arith)
-  all_largest s upto d o l b far (suc fuel) f j q w a =
-      ⊎_elim (λ u. b.largest f j q u a)
+  -- what holds of every path that begins sooner than `upto`, past the first block moved, and of a path where it holds of
+  -- that path moved down, holds of all
+  all_paths : (s : Semantics) (upto : ℕ) (P : ℕ → ℕ → ℕ → Type 0) → first_block h + n < upto
+      → ((f j q : ℕ) → f < upto → Takes s h f j q → P f j q) → ((f j q : ℕ) (g : Lower s f j q) → P g.f' g.j' g.o' → P f j q)
+      → (fuel f j q : ℕ) → f < fuel → Takes s h f j q → P f j q
+  all_paths s upto P far here up zero f j q w a = absurd (omega arith)
+  all_paths s upto P far here up (suc fuel) f j q w a =
+      ⊎_elim (λ u. here f j q u a)
       (λ u. let g = lower s f j q (omega arith) a in
-      let z = all_largest s upto d o l b far fuel g.f' g.j' g.o' (omega (arith, g.sooner)) g.counts in
-      omega (arith, g.same))
-      (cases_lt f upto)
-
-  all_smallest : (s : Semantics) (upto d o l : ℕ) → BestSoFar s h begin finish upto d o l → first_block h + n < upto → (fuel f j q : ℕ) → f < fuel → Takes s h f j q → finish j - begin q ≡ d → l ≤ j
-  all_smallest s upto d o l b far zero f j q w a e = absurd (omega arith)
-  all_smallest s upto d o l b far (suc fuel) f j q w a e =
-      ⊎_elim (λ u. b.smallest f j q u a e)
-      (λ u. let g = lower s f j q (omega arith) a in
-      let z = all_smallest s upto d o l b far fuel g.f' g.j' g.o' (omega (arith, g.sooner)) g.counts
-      (sym g.same ∙ e) in
-      omega (arith, g.ends))
+      up f j q g (all_paths s upto P far here up fuel g.f' g.j' g.o' (omega (arith, g.sooner)) g.counts))
       (cases_lt f upto)
 
   -- one of the visited blocks has a path that counts
@@ -168,6 +160,8 @@ module _ (h : Hop) (t : Tied h) (begin finish : ℕ → ℕ) (n m period : ℕ) 
         first = f;
         takes = c;
         lasts = e;
-        largest = λ f j q a. all_largest s upto d o l b far (f + 1) f j q (omega arith) a;
-        smallest = λ f j q a e. all_smallest s upto d o l b far (f + 1) f j q (omega arith) a e;
+        largest = λ f j q a. all_paths s upto (λ f j q. finish j - begin q ≤ d) far b.largest
+            (λ f j q g z. omega (arith, g.same)) (f + 1) f j q (omega arith) a;
+        smallest = λ f j q a. all_paths s upto (λ f j q. finish j - begin q ≡ d → l ≤ j) far b.smallest
+            (λ f j q g z e. omega (arith, z (sym g.same ∙ e), g.ends)) (f + 1) f j q (omega arith) a;
       }

@@ -8,7 +8,7 @@ use Rattle.stage.proofs.Order.{in_order}
 use Rattle.path.specs.Timed.{last_or, first_stage}
 use Rattle.path.specs.Periods.{Whole, Common, instances_in}
 use Rattle.path.specs.Steps.{count_below, ready_of, ahead_of, back_of, hops_from, hop_along, route_of, first_block, next_block}
-use Rattle.path.proofs.Counting.{below_there}
+use Rattle.path.proofs.Counting.{below_there, rising_le}
 use Rattle.path.proofs.Ready.{hop_tied, hop_follows}
 use Rattle.path.proofs.Blocks.{first_same, next_same}
 use Rattle.path.proofs.Shift.{start_within, start_moves, cycle_in_span, ready_soon, along_later}
@@ -81,17 +81,12 @@ module _ (s : Stage) (ss : List Stage) (l : Lawful s) (ls : AllByRecursion Lawfu
         cycle_in_span s l span c.whole.0 c.positive,
       )
 
-  starts_le : (i j : ℕ) → i ≤ j → start_of s i ≤ start_of s j
-  starts_le i j h =
-      ⊎_elim (λ k. omega (arith, (in_order s l).starts_rise i j k))
-      (λ k. let e : start_of s i ≡ start_of s j = ap (start_of s) (omega arith) in omega arith) (cases_lt i j)
-
   pub in_spans : (f : ℕ) → f ≤ first_block (route_of (s ∷ ss)) + instances_in span s → InSpans (s ∷ ss) span f
   in_spans f h =
       let here : start_of s f ≤ 32 * span =
       omega (
         arith,
-        starts_le f (first_block (route_of (s ∷ ss)) + instances_in span s) h,
+        rising_le (start_of s) (in_order s l).starts_rise f (first_block (route_of (s ∷ ss)) + instances_in span s) h,
         start_moves s l span c.whole.0 (first_block (route_of (s ∷ ss))),
         first_early,
       ) in

@@ -20,20 +20,10 @@ pub record Walked (rows rest : List LawfulRow) (i x : ℕ) : Type 0 where
   pub last : last_stage (stages_of rest) ≡ last_stage (stages_of rows)
   pub early : start_of (first_stage (stages_of rest)) x + length rest * 200_000_000 ≤ 2 ^ 36 + length rows * 200_000_000
 
-pub walked_none : (rows : List LawfulRow) (i : ℕ) → 0 < length rows → start_of (first_stage (stages_of rows)) i < 2 ^ 36 → Walked rows rows i i
-walked_none rows i some early = record { some = some; same = refl; last = refl; early = omega arith }
-
 -- one turn, at a window of two of the rows that are left
 module _ (rows rest pair : List LawfulRow) (size : ℕ) (two : size ≡ 2) (room : size ≤ length rest) (pair_is : pair ≡ take size rest) (i x : ℕ) (k : Walked rows rest i x) where
   front : pair ≡ take 2 rest
   front = pair_is ∙ ap (λ n. take n rest) two
-
-  pub walked_early : (a : LawfulRow) → length rows ≤ 16 → start_of (stage_in (get_or pair 0 a)) x < 2 ^ 40
-  walked_early a few = subst (λ p. start_of (stage_in (get_or p 0 a)) x < 2 ^ 40) (sym front) (early rest (omega arith) k)
-    where
-      early : (rest : List LawfulRow) → 2 ≤ length rest → Walked rows rest i x → start_of (stage_in (get_or (take 2 rest) 0 a)) x < 2 ^ 40
-      early [] h k = absurd (omega arith)
-      early (w ∷ rest) h k = omega (arith, k.early)
 
   pub walked_more : (after : List LawfulRow) (n : ℕ) (a b : LawfulRow) → after ≡ drop 1 rest
       → n ≡ ahead_of (stage_in (get_or pair 0 a)) (stage_in (get_or pair 1 b)) x → Walked rows after i n
@@ -54,16 +44,6 @@ module _ (rows rest pair : List LawfulRow) (size : ℕ) (two : size ≡ 2) (room
             last = k.last;
             early = omega (arith, ahead_soon (stage_in w) (stage_in r) lw lr x, lw.cycle_high, lr.cycle_high, k.early, ap (start_of (stage_in r)) e);
           }
-
-pub record WalkedAll (rows : List LawfulRow) (i x : ℕ) : Type 0 where
-  pub ahead : x ≡ (route_of (stages_of rows)).ahead i
-  pub early : start_of (last_stage (stages_of rows)) x < 2 ^ 40
-
-pub walked_all : (rows rest : List LawfulRow) (i x : ℕ) → length rows ≤ 16 → length rest < 2 → Walked rows rest i x → WalkedAll rows i x
-walked_all rows [] i x few one k = absurd (omega (arith, k.some))
-walked_all rows (s ∷ []) i x few one k =
-    record { ahead = k.same; early = omega (arith, k.early, ap (λ s. start_of s x) k.last) }
-walked_all rows (s ∷ (r ∷ rest)) i x few one k = absurd (omega arith)
 
 -- One more stage behind the others.
 
@@ -200,11 +180,3 @@ module _ (rows front pair : List LawfulRow) (size : ℕ) (two : size ≡ 2) (roo
         ∙ ap (λ s. witness_to (stages_of before) (back_of s reader (x + 1) - 1) ++ x ∷ []) writer_is
         ∙ ap (λ m. witness_to (stages_of before) m ++ x ∷ []) (omega arith)
         ∙ ap (λ l. witness_to (stages_of l) n ++ x ∷ []) (sym after_is)
-
-pub traced_none : (rows : List LawfulRow) (j : ℕ) → 0 < length rows → start_of (last_stage (stages_of rows)) j < 2 ^ 40 → Traced rows rows j j
-traced_none rows j some early = record { some = some; same = refl; early = early }
-
-pub traced_all : (rows front : List LawfulRow) (j x : ℕ) → length front < 2 → Traced rows front j x → x + 1 ≡ (route_of (stages_of rows)).back (j + 1)
-traced_all rows [] j x one k = absurd (omega (arith, k.some))
-traced_all rows (s ∷ []) j x one k = k.same
-traced_all rows (s ∷ (r ∷ front)) j x one k = absurd (omega arith)

@@ -1,5 +1,5 @@
 use Rattle.std.proofs.Common.{◌+◌, ◌<◌, ◌^◌, arith, rules, tests}
-use Rattle.path.proofs.Searching.{last_block_small, reached_start, taking, found_positive, visit_found, visit_kept, visit_none, reached_next, on_time, later, found_some, reached_figure, reached_there, reached_early, is_longer, is_no_longer, first_on_time}
+use Rattle.path.proofs.Searching.{last_block_small, reached_start, taking, found_positive, visit_found, visit_kept, visit_none, reached_next, on_time, later, found_some, reached_end, is_longer, is_no_longer, first_on_time}
 use Rattle.path.proofs.largest.longest_path.Goals as goal
 use Rattle.path.proofs.largest.longest_path.Goals.{in-Some+then-is_none_or, in-Some+else-is_none_or, in_default}
 
@@ -47,8 +47,5 @@ unwrap-requires c = found_some _ _ _ _ _ _ c.loop-block.invariant c.loop-block-t
 
 pub returns : goal.returns
 returns c =
-    record {
-      figure = reached_figure _ _ _ _ _ _ c.loop-block.invariant c.loop-block-test.false _ c.unwrap.ensures;
-      there = reached_there _ _ _ _ _ _ c.loop-block.invariant c.loop-block-test.false _ c.unwrap.ensures;
-      early = reached_early _ _ _ _ _ _ c.loop-block.invariant c.loop-block-test.false _ c.unwrap.ensures;
-    }
+    let end = reached_end _ _ _ _ _ _ c.loop-block.invariant c.loop-block-test.false _ c.unwrap.ensures in
+    record { figure = end.figure; there = end.there; early = end.early }
