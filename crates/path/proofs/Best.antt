@@ -5,7 +5,7 @@ use Rattle.std.proofs.Common.{◌≡◌, ℕ, ◌+◌, ◌-◌, ◌<◌, ◌≤�
 use Rattle.std.proofs.lemmas.Bool.{cases_lt}
 use Rattle.path.specs.declared.semantics.Semantics.{Semantics}
 use Rattle.path.specs.declared.semantics.Semantics.TheVariants.{LL, LF, FL, FF}
-use Rattle.path.proofs.Counting.{Rising}
+use Rattle.path.proofs.Counting.{Rising, rising_le}
 use Rattle.path.specs.Steps.{end_in, Hop, first_block, next_block}
 use Rattle.path.proofs.Hops.{Tied, ahead_rises}
 use Rattle.path.proofs.Blocks.{Opens, Before, before_only, none_before_first, none_between, next_later}
@@ -80,10 +80,6 @@ from_low FF h f o a = omega (arith, a.earlier)
 
 pub takes_opens : (m : Semantics) (h : Hop) (f j o : ℕ) → Takes m h f j o → Opens h f
 takes_opens m h f j o a = omega (arith, a.low, a.high)
-
-rising_le : (f : ℕ → ℕ) → Rising f → (i j : ℕ) → i ≤ j → f i ≤ f j
-rising_le f up i j l =
-    ⊎_elim (λ k. omega (arith, up i j k)) (λ k. let e : f i ≡ f j = ap f (omega arith) in omega arith) (cases_lt i j)
 
 module _ (m : Semantics) (h : Hop) (t : Tied h) (begin finish : ℕ → ℕ) (k : Clock h begin finish) where
   pub takes_time : (f j o : ℕ) → Takes m h f j o → begin o < finish j

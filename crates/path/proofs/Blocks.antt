@@ -35,9 +35,6 @@ module _ (h : Hop) (t : Tied h) where
       let o = joins_opens f j e in
       omega (arith, joins_from h t f j e, least (h.ahead f) (opens_joins f o))
 
-  pub ends_first : (f k : ℕ) → Joins h f k → h.ahead f ≤ k
-  ends_first f k e = joins_from h t f k e
-
   pub top_positive : (i : ℕ) → i < h.back (h.ahead i + 1)
   top_positive i = t.to_back i (h.ahead i + 1) (omega arith)
 

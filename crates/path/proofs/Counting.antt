@@ -1,11 +1,15 @@
 -- How many values of a rising function lie below a bound.
 -- Assumes nothing.
-use Rattle.std.proofs.Common.{◌≡◌, ℕ, zero, suc, ◌+◌, ◌<◌, ◌≤◌, ltb, subst, ⊎_elim, add-one, arith}
+use Rattle.std.proofs.Common.{◌≡◌, ℕ, zero, suc, ◌+◌, ◌<◌, ◌≤◌, ltb, ap, subst, ⊎_elim, add-one, arith}
 use Rattle.path.specs.Steps.{count_to, count_below}
 use Rattle.std.proofs.lemmas.Bool.{cases_lt, ltb-true, ltb-false, cond_both}
 
 abbrev pub Rising : (ℕ → ℕ) → Type 0
 Rising f = (i j : ℕ) → i < j → f i < f j
+
+pub rising_le : (f : ℕ → ℕ) → Rising f → (i j : ℕ) → i ≤ j → f i ≤ f j
+rising_le f up i j l =
+    ⊎_elim (λ k. omega (arith, up i j k)) (λ k. let e : f i ≡ f j = ap f (omega arith) in omega arith) (cases_lt i j)
 
 pub record Counted (f : ℕ → ℕ) (t n c : ℕ) : Type 0 where
   pub few : c ≤ n

@@ -12,7 +12,7 @@ use Rattle.path.specs.Periods.{Common, instances_in}
 use Rattle.path.specs.Steps.{hops_from, route_of, witness_to, first_block}
 use Rattle.path.proofs.Hops.{Tied, Joins, joins, joins_from, joins_to}
 use Rattle.path.proofs.Routes.{along_tied, path_joins, path_only, trace_last, trace_first, trace_path}
-use Rattle.path.proofs.Along.{hops_tied, timed_path, path_timed}
+use Rattle.path.proofs.Along.{hops_tied, timed_is_path}
 use Rattle.path.proofs.Blocks.{Opens, Before, opens_joins, joins_opens, first_ends}
 use Rattle.path.proofs.Best.{Chosen, From, Takes, BestSoFar}
 use Rattle.path.proofs.Period.{BestOfAll, best_all}
@@ -23,10 +23,10 @@ module _ (s : Stage) (ss : List Stage) (l : Lawful s) (ls : AllByRecursion Lawfu
   route_tied = along_tied (hops_from s ss) (hops_tied s ss l ls)
 
   pub timed_joins : (p : List ℕ) → Timed (s ∷ ss) p → Joins (route_of (s ∷ ss)) (first_of p) (last_of p)
-  timed_joins p t = path_joins (hops_from s ss) p (timed_path s ss l ls p t)
+  timed_joins p t = path_joins (hops_from s ss) p ((timed_is_path s ss l ls p).0 t)
 
   pub timed_only : (p : List ℕ) → Timed (s ∷ ss) p → p ≡ witness_to (s ∷ ss) (last_of p)
-  timed_only p t = path_only (hops_from s ss) p (timed_path s ss l ls p t)
+  timed_only p t = path_only (hops_from s ss) p ((timed_is_path s ss l ls p).0 t)
 
   pub witness_last : (j : ℕ) → last_of (witness_to (s ∷ ss) j) ≡ j
   witness_last j = trace_last (hops_from s ss) 0 j
@@ -36,7 +36,7 @@ module _ (s : Stage) (ss : List Stage) (l : Lawful s) (ls : AllByRecursion Lawfu
 
   pub witness_timed : (f j : ℕ) → Joins (route_of (s ∷ ss)) f j → Timed (s ∷ ss) (witness_to (s ∷ ss) j)
   witness_timed f j e =
-      path_timed s ss l ls (witness_to (s ∷ ss) j) (trace_path (hops_from s ss) (hops_tied s ss l ls) j (omega arith))
+      (timed_is_path s ss l ls (witness_to (s ∷ ss) j)).1 (trace_path (hops_from s ss) (hops_tied s ss l ls) j (omega arith))
 
   pub begins_opens : (f : ℕ) → Begins (s ∷ ss) f → Opens (route_of (s ∷ ss)) f
   begins_opens f b =

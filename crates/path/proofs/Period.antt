@@ -6,8 +6,8 @@ use Rattle.std.proofs.lemmas.Bool.{cases_lt}
 use Rattle.path.specs.declared.semantics.Semantics.{Semantics}
 use Rattle.path.specs.declared.semantics.Semantics.TheVariants.{LL, LF, FL, FF}
 use Rattle.path.specs.Steps.{Hop, first_block, next_block}
-use Rattle.path.proofs.Hops.{Tied, back_not, ahead_not}
-use Rattle.path.proofs.Blocks.{Opens, Before, top_positive, first_opens, next_opens, next_before, next_soonest}
+use Rattle.path.proofs.Hops.{Tied}
+use Rattle.path.proofs.Blocks.{Opens, Before, first_opens, next_opens, next_before, next_soonest}
 use Rattle.path.proofs.Best.{Chosen, From, longest, Takes, Clock, BestSoFar, longest_takes, takes_time}
 
 -- n first instances later, and so m last instances later, everything happens by `period` later
@@ -17,27 +17,6 @@ pub record Repeats (h : Hop) (begin finish : ℕ → ℕ) (n m period : ℕ) : T
   pub ahead_moves : (i : ℕ) → h.ahead (i + n) ≡ h.ahead i + m
   pub begin_moves : (i : ℕ) → begin (i + n) ≡ begin i + period
   pub finish_moves : (j : ℕ) → finish (j + m) ≡ finish j + period
-
--- the step back moves too, wherever there is one
-pub back_moves : (h : Hop) → Tied h → (n m : ℕ) → ((i : ℕ) → h.ahead (i + n) ≡ h.ahead i + m) → (c : ℕ) → 0 < h.back c → h.back (c + m) ≡ h.back c + n
-back_moves h t n m moves c l =
-    let i : ℕ = h.back c - 1 in
-    let a = t.to_ahead i c (omega arith) in
-    let b = ahead_not h t (h.back c) c (omega arith) in
-    let p = t.to_back (i + n) (c + m) (omega (arith, moves i)) in
-    let q = back_not h t (h.back c + n) (c + m) (omega (arith, moves (h.back c))) in
-    omega arith
-
--- and so do the blocks
-pub next_moves : (h : Hop) → Tied h → (n m : ℕ) → ((i : ℕ) → h.ahead (i + n) ≡ h.ahead i + m) → (f : ℕ) → next_block h (f + n) ≡ next_block h f + n
-next_moves h t n m moves f =
-    let e : h.ahead (f + n + 1) + 1 ≡ h.ahead (f + 1) + 1 + m =
-    omega (arith, ap h.ahead (sum_moved f n), moves (f + 1)) in
-    let p = top_positive h t (f + 1) in
-    omega (arith, ap h.back e, back_moves h t n m moves (h.ahead (f + 1) + 1) (omega arith))
-  where
-    sum_moved : (f n : ℕ) → f + n + 1 ≡ f + 1 + n
-    sum_moved f n = omega arith
 
 -- the best of all paths that count
 pub record BestOfAll (s : Semantics) (h : Hop) (begin finish : ℕ → ℕ) (d o l : ℕ) : Type 0 where
@@ -127,24 +106,16 @@ module _ (h : Hop) (t : Tied h) (begin finish : ℕ → ℕ) (n m period : ℕ) 
         counts = takes_down s (f - n) (j - m) (o - n) a';
       }
 
-  -- what holds of every path that begins up to the first block moved, or sooner than `upto`, holds of all
-  all_largest : (s : Semantics) (upto d o l : ℕ) → BestSoFar s h begin finish upto d o l → first_block h + n < upto → (fuel f j q : ℕ) → f < fuel → Takes s h f j q → finish j - begin q ≤ d
-  all_largest s upto d o l b far zero f j q w a = absurd (omega arith)
-  all_largest s upto d o l b far (suc fuel) f j q w a =
-      ⊎_elim (λ u. b.largest f j q u a)
+  -- what holds of every path that begins sooner than `upto`, past the first block moved, and of a path where it holds of
+  -- that path moved down, holds of all
+  all_paths : (s : Semantics) (upto : ℕ) (P : ℕ → ℕ → ℕ → Type 0) → first_block h + n < upto
+      → ((f j q : ℕ) → f < upto → Takes s h f j q → P f j q) → ((f j q : ℕ) (g : Lower s f j q) → P g.f' g.j' g.o' → P f j q)
+      → (fuel f j q : ℕ) → f < fuel → Takes s h f j q → P f j q
+  all_paths s upto P far here up zero f j q w a = absurd (omega arith)
+  all_paths s upto P far here up (suc fuel) f j q w a =
+      ⊎_elim (λ u. here f j q u a)
       (λ u. let g = lower s f j q (omega arith) a in
-      let z = all_largest s upto d o l b far fuel g.f' g.j' g.o' (omega (arith, g.sooner)) g.counts in
-      omega (arith, g.same))
-      (cases_lt f upto)
-
-  all_smallest : (s : Semantics) (upto d o l : ℕ) → BestSoFar s h begin finish upto d o l → first_block h + n < upto → (fuel f j q : ℕ) → f < fuel → Takes s h f j q → finish j - begin q ≡ d → l ≤ j
-  all_smallest s upto d o l b far zero f j q w a e = absurd (omega arith)
-  all_smallest s upto d o l b far (suc fuel) f j q w a e =
-      ⊎_elim (λ u. b.smallest f j q u a e)
-      (λ u. let g = lower s f j q (omega arith) a in
-      let z = all_smallest s upto d o l b far fuel g.f' g.j' g.o' (omega (arith, g.sooner)) g.counts
-      (sym g.same ∙ e) in
-      omega (arith, g.ends))
+      up f j q g (all_paths s upto P far here up fuel g.f' g.j' g.o' (omega (arith, g.sooner)) g.counts))
       (cases_lt f upto)
 
   -- one of the visited blocks has a path that counts
@@ -160,25 +131,19 @@ module _ (h : Hop) (t : Tied h) (begin finish : ℕ → ℕ) (n m period : ℕ) 
       next_soonest h t (first_block h) (first_block h + n) (omega (arith, r.some_first))
       (opens_up (first_block h) (first_opens h t))
 
+  -- the first block where no predecessor is asked for, and else the second
+  block_one : (s : Semantics) → From s h (first_block h) (first_block h) → SomeBlock s
+  block_one s from = record { f = first_block h; o = first_block h; soon = omega arith; opens = first_opens h t; from = from }
+
+  block_two : (s : Semantics) → From s h (next_block h (first_block h)) (first_block h) → SomeBlock s
+  block_two s from =
+      record { f = next_block h (first_block h); o = first_block h; soon = second_soon; opens = next_opens h t (first_block h); from = from }
+
   some_block : (s : Semantics) → SomeBlock s
-  some_block LL = record { f = first_block h; o = first_block h; soon = omega arith; opens = first_opens h t; from = refl }
-  some_block LF = record { f = first_block h; o = first_block h; soon = omega arith; opens = first_opens h t; from = refl }
-  some_block FL =
-      record {
-        f = next_block h (first_block h);
-        o = first_block h;
-        soon = second_soon;
-        opens = next_opens h t (first_block h);
-        from = next_before h t (first_block h) (first_opens h t);
-      }
-  some_block FF =
-      record {
-        f = next_block h (first_block h);
-        o = first_block h;
-        soon = second_soon;
-        opens = next_opens h t (first_block h);
-        from = next_before h t (first_block h) (first_opens h t);
-      }
+  some_block LL = block_one LL refl
+  some_block LF = block_one LF refl
+  some_block FL = block_two FL (next_before h t (first_block h) (first_opens h t))
+  some_block FF = block_two FF (next_before h t (first_block h) (first_opens h t))
 
   -- When the first block moved has been visited, the best so far is the best of all.
   pub best_all : (s : Semantics) → Clock h begin finish → (upto d o l : ℕ) → BestSoFar s h begin finish upto d o l → first_block h + n < upto → BestOfAll s h begin finish d o l
@@ -195,6 +160,8 @@ module _ (h : Hop) (t : Tied h) (begin finish : ℕ → ℕ) (n m period : ℕ) 
         first = f;
         takes = c;
         lasts = e;
-        largest = λ f j q a. all_largest s upto d o l b far (f + 1) f j q (omega arith) a;
-        smallest = λ f j q a e. all_smallest s upto d o l b far (f + 1) f j q (omega arith) a e;
+        largest = λ f j q a. all_paths s upto (λ f j q. finish j - begin q ≤ d) far b.largest
+            (λ f j q g z. omega (arith, g.same)) (f + 1) f j q (omega arith) a;
+        smallest = λ f j q a. all_paths s upto (λ f j q. finish j - begin q ≡ d → l ≤ j) far b.smallest
+            (λ f j q g z e. omega (arith, z (sym g.same ∙ e), g.ends)) (f + 1) f j q (omega arith) a;
       }

@@ -25,10 +25,6 @@ unfolding ready_of
 ready_stop w r i h =
     ⊎_elim (λ k. absurd (h k.1)) (λ k. cond-false (does_wait w r) (start_of w i) (stop_of w i) k.0) (waits_cases w r)
 
-pub back_zero : (w r : Stage) → back_of w r 0 ≡ 0
-unfolding back_of
-back_zero w r = refl
-
 pub back_at : (w r : Stage) (j : ℕ) → back_of w r (j + 1) ≡ count_below (ready_of w r) (start_of r j + 1)
 unfolding back_of
 back_at w r j = rw (add-one j) refl

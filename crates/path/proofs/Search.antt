@@ -1,8 +1,7 @@
 -- The search for a figure, block by block: what it knows when it comes to a block, and what it answers at the end.
 -- Assumes nothing.
-use Rattle.std.proofs.Common.{◌≡◌, ℕ, ◌+◌, ◌-◌, ◌*◌, ◌/◌, ◌<◌, ◌≤◌, List, [], ◌∷◌, length, get_or, refl, subst, ⊎_elim, arith}
+use Rattle.std.proofs.Common.{◌≡◌, ℕ, ◌+◌, ◌-◌, ◌*◌, ◌/◌, ◌<◌, ◌≤◌, List, [], ◌∷◌, length, refl, subst, ⊎_elim, arith}
 use Rattle.std.specs.List.{AllByRecursion}
-use Rattle.std.proofs.ByRecursion.{All-get_or}
 use Rattle.std.proofs.lemmas.Bool.{cases_lt}
 use Rattle.stage.specs.Stages.{Stage, Lawful, count_of, start_of, stop_of}
 use Rattle.stage.proofs.Order.{in_order}
@@ -11,14 +10,14 @@ use Rattle.path.specs.declared.semantics.Semantics.TheVariants.{LL, LF, FL, FF}
 use Rattle.path.specs.Timed.{first_stage, last_stage}
 use Rattle.path.specs.Figures.{shown_predecessor, Figure}
 use Rattle.path.specs.Periods.{Common, instances_in}
-use Rattle.path.specs.Steps.{ahead_of, back_of, Hop, route_of, witness_to, first_block, next_block}
+use Rattle.path.specs.Steps.{Hop, route_of, witness_to, first_block, next_block}
 use Rattle.path.proofs.Hops.{Tied}
-use Rattle.path.proofs.Blocks.{Opens, Before, first_opens, first_alone, next_later, next_opens, next_before, next_same, first_same, top_positive}
+use Rattle.path.proofs.Blocks.{Opens, Before, first_opens, first_alone, next_later, next_opens, next_before, next_same, top_positive}
 use Rattle.path.proofs.Best.{From, longest, Clock, BestSoFar, best_none, best_skip, best_more, best_same, longest_takes, longest_low, from_low, takes_time}
 use Rattle.path.proofs.Period.{best_all}
 use Rattle.path.proofs.Shift.{route_clock, route_repeats}
 use Rattle.path.proofs.Figures.{route_tied, best_finish, takes_joins}
-use Rattle.path.proofs.Sizes.{InSpans, in_spans, Short, all_short, ahead_soon_span, back_earlier}
+use Rattle.path.proofs.Sizes.{InSpans, in_spans}
 
 -- which blocks have paths that count: where a predecessor is asked for, those after the first
 abbrev pub Counting : Semantics → ℕ → ℕ → Type 0
@@ -179,12 +178,6 @@ module _ (ss : List Stage) (some : 0 < length ss) (ls : AllByRecursion Lawful ss
   pub back_there : (i : ℕ) → i < (route_of ss).back ((route_of ss).ahead i + 1)
   back_there i = top_positive (route_of ss) (tied ss some ls) i
 
-  pub first_ahead : (route_of ss).ahead (first_block (route_of ss)) ≡ (route_of ss).ahead 0
-  first_ahead = first_same (route_of ss) (tied ss some ls)
-
-  pub next_ahead : (f : ℕ) → (route_of ss).ahead (next_block (route_of ss) f) ≡ (route_of ss).ahead (f + 1)
-  next_ahead f = next_same (route_of ss) (tied ss some ls) f
-
   pub next_after : (f : ℕ) → f < next_block (route_of ss) f
   next_after f = next_later (route_of ss) (tied ss some ls) f
 
@@ -195,18 +188,3 @@ instances_in_is span s = refl
 -- An instance's number is at most the time of its start.
 pub number_small : (s : Stage) → Lawful s → (i t : ℕ) → start_of s i ≤ t → i ≤ t
 number_small s l i t h = omega (arith, (in_order s l).number_below_start i)
-
--- One step ahead from stage k to stage k + 1, and its time, counted in spans from the time t at which the walk began.
-pub walk_ahead : (ss : List Stage) → AllByRecursion Lawful ss → (span : ℕ) → Common span ss → (d : Stage) (k x t : ℕ) → k + 1 < length ss → start_of (get_or ss k d) x ≤ t + k * (2 * span) → start_of (get_or ss (k + 1) d) (ahead_of (get_or ss k d) (get_or ss (k + 1) d) x) ≤ t + (k + 1) * (2 * span)
-walk_ahead ss ls span c d k x t h low =
-    let short = all_short span c.positive ss ls c.whole in
-    omega (
-      arith,
-      ahead_soon_span (get_or ss k d) (get_or ss (k + 1) d) (All-get_or Lawful ss k d (omega arith) ls) (All-get_or Lawful ss (k + 1) d h ls)
-          span (All-get_or (Short span) ss k d (omega arith) short) (All-get_or (Short span) ss (k + 1) d h short) x,
-    )
-
--- One step back from instance j of stage k + 1 to stage k: it is no later.
-pub walk_back : (ss : List Stage) → AllByRecursion Lawful ss → (d : Stage) (k j : ℕ) → k + 1 < length ss → 0 < back_of (get_or ss k d) (get_or ss (k + 1) d) (j + 1) → start_of (get_or ss k d) (back_of (get_or ss k d) (get_or ss (k + 1) d) (j + 1) - 1) ≤ start_of (get_or ss (k + 1) d) j
-walk_back ss ls d k j h some =
-    back_earlier (get_or ss k d) (get_or ss (k + 1) d) (All-get_or Lawful ss k d (omega arith) ls) (All-get_or Lawful ss (k + 1) d h ls) j some

@@ -259,12 +259,11 @@ module _ (m : Semantics) (route : Route) (span end : ℕ) (block : Block) (best 
       (delay_of best) (origin_of best) (last_of best) v.visit
       (origin_none m (first_block (route_of (stages_along block.route))) block.begin block.before v.before e)
 
-  -- and on to the next block, with the best that is then known
-  pub reached_next : (next : Block) (best' : Option Longest) → next.route ≡ block.route
+  on : (next : Block) (best' : Option Longest) → next.route ≡ block.route
       → next.begin ≡ next_block (route_of (stages_along block.route)) block.begin → next.before ≡ Some block.begin
       → Visit m (stages_along block.route) (next_block (route_of (stages_along block.route)) block.begin) block.begin (delay_of best') (origin_of best') (last_of best')
       → Reached m route span end next best'
-  reached_next next best' along begin before w =
+  on next best' along begin before w =
       let later : first_block (route_of (stages_along block.route)) < next.begin =
       omega (arith, begin, v.visit.reached, next_after (stages_along block.route) (some block.route) (laws block.route) block.begin) in
       record {
@@ -280,12 +279,26 @@ module _ (m : Semantics) (route : Route) (span end : ℕ) (block : Block) (best 
             (delay_of best') (origin_of best') (last_of best')) (sym before) w));
       }
 
+  -- and on to the next block, with the best that is then known
+  pub reached_next : (next : Block) (known best' : Option Longest) → next.route ≡ block.route
+      → next.begin ≡ next_block (route_of (stages_along block.route)) block.begin → next.before ≡ Some block.begin → best' ≡ known
+      → Visit m (stages_along block.route) (next_block (route_of (stages_along block.route)) block.begin) block.begin (delay_of known) (origin_of known) (last_of known)
+      → Reached m route span end next best'
+  reached_next next known best' along begin before is w =
+      subst (Reached m route span end next) (sym is) (on next known along begin before w)
+
   pub on_time : span ≤ 100_000_000 → block.begin ≤ end
       → start_of (first_stage (stages_along block.route)) (next_block (route_of (stages_along block.route)) block.begin + 1) < 2 ^ 36
   on_time short h = next_early block.route span v.common short block.begin (omega (arith, v.end_is))
 
   pub later : block.begin < next_block (route_of (stages_along block.route)) block.begin
   later = next_after (stages_along block.route) (some block.route) (laws block.route) block.begin
+
+-- What the search answers: a figure, and a path that can be written out.
+pub record Ends (m : Semantics) (route : Route) (l : Longest) : Type 0 where
+  pub figure : Figure m (stages_along route) l.delay (shown_predecessor m l.origin) (witness_to (stages_along route) l.last)
+  pub there : 0 < (route_of (stages_along route)).back (l.last + 1)
+  pub early : start_of (last_stage (stages_along route)) l.last < 2 ^ 40
 
 -- The end of the search.
 module _ (m : Semantics) (route : Route) (span end : ℕ) (block : Block) (best : Option Longest) (v : Reached m route span end block best) (past : end < block.begin) where
@@ -306,24 +319,27 @@ module _ (m : Semantics) (route : Route) (span end : ℕ) (block : Block) (best 
     visited =
         subst (λ o. Visit m (stages_along block.route) block.begin (unwrap_or block.before 0) (delay_of o) (origin_of o) (last_of o)) is v.visit
 
-    pub reached_figure : Figure m (stages_along route) l.delay (shown_predecessor m l.origin) (witness_to (stages_along route) l.last)
+    reached_figure : Figure m (stages_along route) l.delay (shown_predecessor m l.origin) (witness_to (stages_along route) l.last)
     reached_figure =
         subst (λ r. Figure m (stages_along r) l.delay (shown_predecessor m l.origin) (witness_to (stages_along r) l.last)) v.along
         (visit_finish m (stages_along block.route) (some block.route) (laws block.route) span v.common block.begin (unwrap_or block.before 0)
         l.delay l.origin l.last visited far)
 
-    pub reached_there : 0 < (route_of (stages_along route)).back (l.last + 1)
+    reached_there : 0 < (route_of (stages_along route)).back (l.last + 1)
     reached_there =
         subst (λ r. 0 < (route_of (stages_along r)).back (l.last + 1)) v.along
         (visit_written m (stages_along block.route) (some block.route) (laws block.route) span v.common block.begin (unwrap_or block.before 0)
         l.delay l.origin l.last visited far)
 
-    pub reached_early : start_of (last_stage (stages_along route)) l.last < 2 ^ 40
+    reached_early : start_of (last_stage (stages_along route)) l.last < 2 ^ 40
     reached_early =
         let lawful = last_lawful (stages_along block.route) (some block.route) (laws block.route) in
         let low : l.last < block.far = omega (arith, visited.last_low, block.near_is, block.opens) in
         subst (λ r. start_of (last_stage (stages_along r)) l.last < 2 ^ 40) v.along
         (omega (arith, (in_order (last_stage (stages_along block.route)) lawful).starts_rise l.last block.far low, block.early))
+
+    pub reached_end : Ends m route l
+    reached_end = record { figure = reached_figure; there = reached_there; early = reached_early }
 
 -- What the comparison with the best so far says.
 pub is_longer : (best : Option Longest) (l : Longest) (Longer : Longest → Type 0) → 0 < l.delay → MatchOption best (IsTrue true) Longer

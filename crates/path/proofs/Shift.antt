@@ -13,26 +13,23 @@ use Rattle.path.proofs.Ready.{waits_cases, ready_start, ready_stop, stops_rise, 
 use Rattle.path.proofs.Best.{Clock}
 use Rattle.path.proofs.Period.{Repeats}
 
+-- what moves by a cycle after a count of instances moves by k cycles after k counts
+turns : (f : ℕ → ℕ) (count cycle : ℕ) → ((i : ℕ) → f (i + count) ≡ f i + cycle) → (k i : ℕ) → f (i + k * count) ≡ f i + k * cycle
+turns f count cycle shift zero i =
+    let e : f i ≡ f i + 0 * cycle = omega arith in
+    subst (λ x. f x ≡ f i + 0 * cycle) (omega arith) e
+turns f count cycle shift (suc k) i =
+    let a = turns f count cycle shift k i in
+    let b = shift (i + k * count) in
+    let e : f (i + k * count + count) ≡ f i + suc k * cycle = omega arith in
+    subst (λ x. f x ≡ f i + suc k * cycle) (omega arith) e
+
 module _ (s : Stage) (l : Lawful s) where
   pub start_turns : (k i : ℕ) → start_of s (i + k * count_of s) ≡ start_of s i + k * s.cycle
-  start_turns zero i =
-      let e : start_of s i ≡ start_of s i + 0 * s.cycle = omega arith in
-      subst (λ x. start_of s x ≡ start_of s i + 0 * s.cycle) (omega arith) e
-  start_turns (suc k) i =
-      let a = start_turns k i in
-      let b = (in_order s l).start_shift (i + k * count_of s) in
-      let e : start_of s (i + k * count_of s + count_of s) ≡ start_of s i + suc k * s.cycle = omega arith in
-      subst (λ x. start_of s x ≡ start_of s i + suc k * s.cycle) (omega arith) e
+  start_turns k i = turns (start_of s) (count_of s) s.cycle (in_order s l).start_shift k i
 
   stop_turns : (k i : ℕ) → stop_of s (i + k * count_of s) ≡ stop_of s i + k * s.cycle
-  stop_turns zero i =
-      let e : stop_of s i ≡ stop_of s i + 0 * s.cycle = omega arith in
-      subst (λ x. stop_of s x ≡ stop_of s i + 0 * s.cycle) (omega arith) e
-  stop_turns (suc k) i =
-      let a = stop_turns k i in
-      let b = (in_order s l).stop_shift (i + k * count_of s) in
-      let e : stop_of s (i + k * count_of s + count_of s) ≡ stop_of s i + suc k * s.cycle = omega arith in
-      subst (λ x. stop_of s x ≡ stop_of s i + suc k * s.cycle) (omega arith) e
+  stop_turns k i = turns (stop_of s) (count_of s) s.cycle (in_order s l).stop_shift k i
 
   -- the instances of the first k cycles start within them
   pub start_within : (k i : ℕ) → i < k * count_of s → start_of s i < k * s.cycle

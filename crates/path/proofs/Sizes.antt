@@ -1,17 +1,17 @@
 -- How late the times are that a search meets.
 -- Assumes nothing.
-use Rattle.std.proofs.Common.{◌≡◌, ℕ, ◌+◌, ◌-◌, ◌*◌, ◌^◌, ◌<◌, ◌≤◌, List, [], ◌∷◌, length, ap, ⊎_elim, mul-le-mul_right, arith}
+use Rattle.std.proofs.Common.{◌≡◌, ℕ, ◌+◌, ◌-◌, ◌*◌, ◌<◌, ◌≤◌, List, [], ◌∷◌, length, ap, ⊎_elim, mul-le-mul_right, arith}
 use Rattle.std.specs.List.{AllByRecursion}
 use Rattle.std.proofs.lemmas.Bool.{cases_lt}
-use Rattle.stage.specs.Stages.{Stage, Lawful, start_of, stop_of}
+use Rattle.stage.specs.Stages.{Stage, Lawful, start_of}
 use Rattle.stage.proofs.Order.{in_order}
-use Rattle.path.specs.Timed.{last_or, first_stage, last_stage}
+use Rattle.path.specs.Timed.{last_or, first_stage}
 use Rattle.path.specs.Periods.{Whole, Common, instances_in}
 use Rattle.path.specs.Steps.{count_below, ready_of, ahead_of, back_of, hops_from, hop_along, route_of, first_block, next_block}
-use Rattle.path.proofs.Counting.{below_there}
+use Rattle.path.proofs.Counting.{below_there, rising_le}
 use Rattle.path.proofs.Ready.{hop_tied, hop_follows}
 use Rattle.path.proofs.Blocks.{first_same, next_same}
-use Rattle.path.proofs.Shift.{start_within, start_moves, cycle_in_span, ready_soon, along_later, last_holds}
+use Rattle.path.proofs.Shift.{start_within, start_moves, cycle_in_span, ready_soon, along_later}
 use Rattle.path.proofs.Figures.{route_tied}
 
 module _ (w r : Stage) (lw : Lawful w) (lr : Lawful r) where
@@ -56,10 +56,6 @@ all_short span p (s ∷ ss) ls ws = (cycle_in_span s ls.0 span ws.0 p, all_short
 pub record InSpans (ss : List Stage) (span f : ℕ) : Type 0 where
   pub start : start_of (first_stage ss) f ≤ 32 * span
   pub start_after : start_of (first_stage ss) (f + 1) ≤ 33 * span
-  pub ahead : start_of (last_stage ss) ((route_of ss).ahead f) ≤ 62 * span
-  pub ahead_after : start_of (last_stage ss) ((route_of ss).ahead (f + 1)) ≤ 63 * span
-  pub stop : stop_of (last_stage ss) ((route_of ss).ahead f) ≤ 64 * span
-  pub stop_after : stop_of (last_stage ss) ((route_of ss).ahead (f + 1)) ≤ 64 * span
   pub next : start_of (first_stage ss) (next_block (route_of ss) f) ≤ 63 * span
 
 module _ (s : Stage) (ss : List Stage) (l : Lawful s) (ls : AllByRecursion Lawful ss) (span : ℕ) (c : Common span (s ∷ ss)) (few : length ss ≤ 15) where
@@ -85,37 +81,18 @@ module _ (s : Stage) (ss : List Stage) (l : Lawful s) (ls : AllByRecursion Lawfu
         cycle_in_span s l span c.whole.0 c.positive,
       )
 
-  starts_le : (i j : ℕ) → i ≤ j → start_of s i ≤ start_of s j
-  starts_le i j h =
-      ⊎_elim (λ k. omega (arith, (in_order s l).starts_rise i j k))
-      (λ k. let e : start_of s i ≡ start_of s j = ap (start_of s) (omega arith) in omega arith) (cases_lt i j)
-
-  stop_soon : (t : Stage) → Lawful t → (i : ℕ) → stop_of t i ≤ start_of t i + t.cycle
-  stop_soon t h i = omega (arith, (in_order t h).stop_before_next i, (in_order t h).next_within_cycle i)
-
   pub in_spans : (f : ℕ) → f ≤ first_block (route_of (s ∷ ss)) + instances_in span s → InSpans (s ∷ ss) span f
   in_spans f h =
-      let short = all_short span c.positive (s ∷ ss) (l, ls) c.whole in
-      let lastshort = last_holds (Short span) s ss short.0 short.1 in
-      let lastlaw = last_holds Lawful s ss l ls in
       let here : start_of s f ≤ 32 * span =
       omega (
         arith,
-        starts_le f (first_block (route_of (s ∷ ss)) + instances_in span s) h,
+        rising_le (start_of s) (in_order s l).starts_rise f (first_block (route_of (s ∷ ss)) + instances_in span s) h,
         start_moves s l span c.whole.0 (first_block (route_of (s ∷ ss))),
         first_early,
       ) in
-      let after : start_of s (f + 1) ≤ 33 * span = omega (arith, (in_order s l).next_within_cycle f) in
+      let after : start_of s (f + 1) ≤ 33 * span = omega (arith, (in_order s l).next_within_cycle f, cycle_in_span s l span c.whole.0 c.positive) in
       record {
         start = here;
         start_after = after;
-        ahead = omega (arith, soon f);
-        ahead_after = omega (arith, soon (f + 1));
-        stop = omega (arith, soon f, stop_soon (last_or s ss) lastlaw ((route_of (s ∷ ss)).ahead f));
-        stop_after = omega (arith, soon (f + 1), stop_soon (last_or s ss) lastlaw ((route_of (s ∷ ss)).ahead (f + 1)));
         next = omega (arith, earlier (next_block (route_of (s ∷ ss)) f) (f + 1) (next_same (route_of (s ∷ ss)) (route_tied s ss l ls) f));
       }
-
--- 70 spans of at most 100 seconds are below 2 ^ 40 microseconds
-pub spans_small : (span t : ℕ) → span ≤ 100_000_000 → t ≤ 70 * span → t < 2 ^ 40
-spans_small span t h k = omega arith

@@ -1,17 +1,17 @@
 -- One hop between rows in memory, step by step as the code takes it.
 -- Assumes nothing.
-use Rattle.std.proofs.Common.{◌≡◌, ℕ, ◌+◌, ◌-◌, ◌^◌, ◌<◌, ◌≤◌, Option, Some, None, refl, sym, subst, ⊎_elim, arith}
+use Rattle.std.proofs.Common.{◌≡◌, ℕ, ◌+◌, ◌-◌, ◌^◌, ◌<◌, ◌≤◌, Option, Some, None, refl, subst, ⊎_elim, arith, IsTrue, false, ◌↔◌}
 use Rattle.std.specs.Option.{SomeIff, IsSome}
-use Rattle.std.proofs.lemmas.Bool.{cases_lt}
+use Rattle.std.proofs.lemmas.Bool.{cases_lt, false≢true}
 use Rattle.stage.specs.Stages.{Stage, Lawful, start_of, stop_of}
 use Rattle.stage.specs.Instances.{FirstFrom}
 use Rattle.stage.proofs.Order.{in_order}
 use Rattle.path.specs.Given.{stage_in}
 use Rattle.path.specs.declared.hop.Hop.{Hop}
 use Rattle.path.specs.Forward.{Waits}
-use Rattle.path.specs.Steps.{ahead_of, back_of}
+use Rattle.path.specs.Steps.{back_of}
 use Rattle.path.proofs.Given.{laws_in}
-use Rattle.path.proofs.Ready.{ready_start, ready_stop, ahead_first, back_waiting, back_stopped, back_running, back_nothing}
+use Rattle.path.proofs.Ready.{back_waiting, back_stopped, back_running, back_nothing}
 
 -- a time that fits is answered, and the answer is that time
 pub answered : (o : Option ℕ) (t : ℕ) → SomeIff o (t < 2 ^ 64) t → t < 2 ^ 64 → IsSome o
@@ -24,6 +24,10 @@ answer_is (Some y) t x h e = let s = h.1 in cc
 
 pub stop_soon : (s : Stage) → Lawful s → (i : ℕ) → stop_of s i ≤ start_of s i + 100_000_000
 stop_soon s l i = omega (arith, (in_order s l).stop_before_next i, (in_order s l).next_within_cycle i, l.cycle_high)
+
+-- a test that failed
+pub refuted : (P : Type 0) → IsTrue false ↔ P → ¬ P
+refuted P e h = false≢true (e.1 h)
 
 -- What the step back from reader j learns, which starts at t and before which n writers start.
 pub record StepsBack (hop : Hop) (j t n : ℕ) : Type 0 where
@@ -38,32 +42,6 @@ pub record StepsBack (hop : Hop) (j t n : ℕ) : Type 0 where
   -- otherwise the one before it
   pub running : ¬ Waits (stage_in hop.writer.now) (stage_in hop.reader.now) → t < stop_of (stage_in hop.writer.now) (n - 1)
       → n - 1 ≡ back_of (stage_in hop.writer.now) (stage_in hop.reader.now) (j + 1)
-
-module _ (hop : Hop) where
-  lw : Lawful (stage_in hop.writer.now)
-  lw = laws_in hop.writer.now
-
-  lr : Lawful (stage_in hop.reader.now)
-  lr = laws_in hop.reader.now
-
-  pub writer_stops : (i : ℕ) → stop_of (stage_in hop.writer.now) i ≤ start_of (stage_in hop.writer.now) i + 100_000_000
-  writer_stops i = stop_soon (stage_in hop.writer.now) lw i
-
-  pub ahead_waiting : (i n : ℕ) → Waits (stage_in hop.writer.now) (stage_in hop.reader.now)
-      → FirstFrom (stage_in hop.reader.now) (start_of (stage_in hop.writer.now) i) n
-      → n ≡ ahead_of (stage_in hop.writer.now) (stage_in hop.reader.now) i
-  ahead_waiting i n h f =
-      ahead_first (stage_in hop.writer.now) (stage_in hop.reader.now) lw lr i n
-      (subst (λ t. FirstFrom (stage_in hop.reader.now) t n)
-      (sym (ready_start (stage_in hop.writer.now) (stage_in hop.reader.now) i h)) f)
-
-  pub ahead_stopped : (i n : ℕ) → ¬ Waits (stage_in hop.writer.now) (stage_in hop.reader.now)
-      → FirstFrom (stage_in hop.reader.now) (stop_of (stage_in hop.writer.now) i) n
-      → n ≡ ahead_of (stage_in hop.writer.now) (stage_in hop.reader.now) i
-  ahead_stopped i n h f =
-      ahead_first (stage_in hop.writer.now) (stage_in hop.reader.now) lw lr i n
-      (subst (λ t. FirstFrom (stage_in hop.reader.now) t n)
-      (sym (ready_stop (stage_in hop.writer.now) (stage_in hop.reader.now) i h)) f)
 
 steps_back : (w r : Stage) → Lawful w → Lawful r → (j n : ℕ) → FirstFrom w (start_of r j + 1) n → 0 < back_of w r (j + 1) → 1 ≤ n
 steps_back w r lw lr j n f there =

@@ -6,11 +6,10 @@ use Rattle.std.proofs.lemmas.List.{length-take-le, get_or-take, get_or-drop, tak
 use Rattle.stage.specs.Stages.{Stage, start_of}
 use Rattle.stage.specs.declared.lawful.LawfulRow.{LawfulRow}
 use Rattle.path.specs.Given.{stage_in, stages_of}
-use Rattle.path.specs.Timed.{last_or, first_stage, last_stage, no_stage, first_of}
+use Rattle.path.specs.Timed.{last_or, first_stage, last_stage, first_of}
 use Rattle.path.specs.Steps.{Hop, ahead_of, back_of, hops_from, hop_along, route_of, trace_back, witness_to}
-use Rattle.path.proofs.Given.{all_laws, laws_in, stage_at, stages_length}
+use Rattle.path.proofs.Given.{all_laws, last_at, laws_in, stages_length}
 use Rattle.path.proofs.Routes.{positive_inside}
-use Rattle.path.proofs.Rows.{last_stage_at}
 use Rattle.path.proofs.Search.{tied}
 use Rattle.path.proofs.Sizes.{ahead_soon, back_earlier}
 
@@ -21,20 +20,10 @@ pub record Walked (rows rest : List LawfulRow) (i x : ℕ) : Type 0 where
   pub last : last_stage (stages_of rest) ≡ last_stage (stages_of rows)
   pub early : start_of (first_stage (stages_of rest)) x + length rest * 200_000_000 ≤ 2 ^ 36 + length rows * 200_000_000
 
-pub walked_none : (rows : List LawfulRow) (i : ℕ) → 0 < length rows → start_of (first_stage (stages_of rows)) i < 2 ^ 36 → Walked rows rows i i
-walked_none rows i some early = record { some = some; same = refl; last = refl; early = omega arith }
-
 -- one turn, at a window of two of the rows that are left
 module _ (rows rest pair : List LawfulRow) (size : ℕ) (two : size ≡ 2) (room : size ≤ length rest) (pair_is : pair ≡ take size rest) (i x : ℕ) (k : Walked rows rest i x) where
   front : pair ≡ take 2 rest
   front = pair_is ∙ ap (λ n. take n rest) two
-
-  pub walked_early : (a : LawfulRow) → length rows ≤ 16 → start_of (stage_in (get_or pair 0 a)) x < 2 ^ 40
-  walked_early a few = subst (λ p. start_of (stage_in (get_or p 0 a)) x < 2 ^ 40) (sym front) (early rest (omega arith) k)
-    where
-      early : (rest : List LawfulRow) → 2 ≤ length rest → Walked rows rest i x → start_of (stage_in (get_or (take 2 rest) 0 a)) x < 2 ^ 40
-      early [] h k = absurd (omega arith)
-      early (w ∷ rest) h k = omega (arith, k.early)
 
   pub walked_more : (after : List LawfulRow) (n : ℕ) (a b : LawfulRow) → after ≡ drop 1 rest
       → n ≡ ahead_of (stage_in (get_or pair 0 a)) (stage_in (get_or pair 1 b)) x → Walked rows after i n
@@ -55,16 +44,6 @@ module _ (rows rest pair : List LawfulRow) (size : ℕ) (two : size ≡ 2) (room
             last = k.last;
             early = omega (arith, ahead_soon (stage_in w) (stage_in r) lw lr x, lw.cycle_high, lr.cycle_high, k.early, ap (start_of (stage_in r)) e);
           }
-
-pub record WalkedAll (rows : List LawfulRow) (i x : ℕ) : Type 0 where
-  pub ahead : x ≡ (route_of (stages_of rows)).ahead i
-  pub early : start_of (last_stage (stages_of rows)) x < 2 ^ 40
-
-pub walked_all : (rows rest : List LawfulRow) (i x : ℕ) → length rows ≤ 16 → length rest < 2 → Walked rows rest i x → WalkedAll rows i x
-walked_all rows [] i x few one k = absurd (omega (arith, k.some))
-walked_all rows (s ∷ []) i x few one k =
-    record { ahead = k.same; early = omega (arith, k.early, ap (λ s. start_of s x) k.last) }
-walked_all rows (s ∷ (r ∷ rest)) i x few one k = absurd (omega arith)
 
 -- One more stage behind the others.
 
@@ -154,9 +133,8 @@ module _ (rows front pair : List LawfulRow) (size : ℕ) (two : size ≡ 2) (roo
 
   writer_is : last_stage (stages_of before) ≡ writer
   writer_is =
-      last_stage_at (stages_of before) (length front - 2) (omega (arith, stages_length before, long))
-      ∙ stage_at before (length front - 2) a no_stage (omega (arith, long))
-      ∙ ap stage_in (get_or-take (length front - 1) front (length front - 2) a (omega arith)
+      last_at before a (omega (arith, long))
+      ∙ ap stage_in (ap (λ n. get_or before n a) (omega (arith, long)) ∙ get_or-take (length front - 1) front (length front - 2) a (omega arith)
       ∙ ap (λ n. get_or front n a) (omega arith) ∙ sym (row_at 0 a))
 
   steps_is : (c : ℕ) → (route_of (stages_of front)).back c ≡ (route_of (stages_of before)).back (back_of writer reader c)
@@ -202,11 +180,3 @@ module _ (rows front pair : List LawfulRow) (size : ℕ) (two : size ≡ 2) (roo
         ∙ ap (λ s. witness_to (stages_of before) (back_of s reader (x + 1) - 1) ++ x ∷ []) writer_is
         ∙ ap (λ m. witness_to (stages_of before) m ++ x ∷ []) (omega arith)
         ∙ ap (λ l. witness_to (stages_of l) n ++ x ∷ []) (sym after_is)
-
-pub traced_none : (rows : List LawfulRow) (j : ℕ) → 0 < length rows → start_of (last_stage (stages_of rows)) j < 2 ^ 40 → Traced rows rows j j
-traced_none rows j some early = record { some = some; same = refl; early = early }
-
-pub traced_all : (rows front : List LawfulRow) (j x : ℕ) → length front < 2 → Traced rows front j x → x + 1 ≡ (route_of (stages_of rows)).back (j + 1)
-traced_all rows [] j x one k = absurd (omega (arith, k.some))
-traced_all rows (s ∷ []) j x one k = k.same
-traced_all rows (s ∷ (r ∷ front)) j x one k = absurd (omega arith)

@@ -1,7 +1,7 @@
 -- The walk back along a route, which writes the path that it takes.
 -- Assumes nothing.
 use Rattle.std.proofs.Common.{◌≡◌, ℕ, ◌+◌, ◌-◌, ◌<◌, ◌≤◌, List, [], ◌∷◌, ◌++◌, length, get_or, take, drop, set, sym, refl, ap, ◌∙◌, append_assoc, add-one, arith}
-use Rattle.std.proofs.lemmas.List.{get_or-set_same, drop-set-lt, drop_more, append-nil}
+use Rattle.std.proofs.lemmas.List.{get_or-set_same, drop-set-lt, drop_more}
 use Rattle.stage.specs.declared.lawful.LawfulRow.{LawfulRow}
 use Rattle.path.specs.Given.{stages_of}
 use Rattle.path.specs.Steps.{trace_back, witness_to}
@@ -19,18 +19,6 @@ take-drop_more : (path : List ℕ) (m q : ℕ) → m < length path → take (q +
 take-drop_more path m q h = ap (take (q + 1)) (drop_more path m 0 h) ∙ ap (λ n. take n (get_or path m 0 ∷ drop (m + 1) path)) (add-one q)
 
 module _ (rows : List LawfulRow) (j : ℕ) (old : List ℕ) (room : length rows ≤ length old) where
-  pub writing_none : 0 < length rows → Writing rows rows j j (set old (length rows - 1) j) old
-  writing_none some =
-      record {
-        within = omega arith;
-        written =
-            let none : length rows - length rows ≡ 0 = omega arith in
-            ap (λ n. witness_to (stages_of rows) j ++ take n (drop (length rows) (set old (length rows - 1) j))) none
-            ∙ append-nil (witness_to (stages_of rows) j);
-        here = get_or-set_same old (length rows - 1) j 0 (omega arith);
-        rest = drop-set-lt (length rows) old (length rows - 1) j (omega (arith, some));
-      }
-
   pub writing_more : (front after : List LawfulRow) (x n k : ℕ) (path : List ℕ) → length path ≡ length old → 2 ≤ length front
       → length after ≡ length front - 1 → k ≡ length after - 1
       → witness_to (stages_of front) x ≡ witness_to (stages_of after) n ++ x ∷ []

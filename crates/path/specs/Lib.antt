@@ -1,11 +1,11 @@
 pub mod Numbering
 pub mod Given
-pub mod Route
 pub mod Forward
 pub mod Timed
 pub mod Figures
 pub mod Periods
 pub mod Steps
+pub mod Route
 pub mod Block
 pub mod Refusals
 pub mod Samples

@@ -1,11 +1,11 @@
 // The search for the largest delay, block by block.
 ghost use Rattle.std.specs.Prelude.{◌≡◌, ◌+◌, ◌^◌, ◌<◌, ◌≤◌, None, Some, IfSome};
+ghost use Rattle.stage.specs.declared.period.TheConstants.{MAX_MACRO_PERIOD};
 ghost use Rattle.stage.specs.Stages.{start_of, stop_of};
 ghost use Rattle.path.specs.Figures.{Figure, shown_predecessor};
 ghost use Rattle.path.specs.Periods.{Common};
-ghost use Rattle.path.specs.Route.{stages_along};
-ghost use Rattle.path.specs.Steps.{end_in, first_block, next_block, origin_in, route_of, witness_to};
-ghost use Rattle.path.specs.Timed.{first_stage, last_stage};
+ghost use Rattle.path.specs.Route.{first_along, last_along, stages_along, steps_along};
+ghost use Rattle.path.specs.Steps.{end_in, first_block, next_block, origin_in, witness_to};
 
 use crate::route::Route;
 use crate::semantics::Semantics;
@@ -27,19 +27,19 @@ struct Block<'a> {
     before: Option<u64>,
     near: u64,
     far: u64,
-    ghost near_is: { near ≡ (route_of (stages_along route)).ahead begin },
-    ghost far_is: { far ≡ (route_of (stages_along route)).ahead (begin + 1) },
+    ghost near_is: { near ≡ (steps_along route).ahead begin },
+    ghost far_is: { far ≡ (steps_along route).ahead (begin + 1) },
     ghost opens: { near < far },
-    ghost early: { start_of (last_stage (stages_along route)) far < 2 ^ 40 },
+    ghost early: { start_of (last_along route) far < 2 ^ 40 },
 }
 
 impl<'a> Block<'a> {
     ghost use Rattle.path.specs.Block.{LongestOf};
 
     fn first(route: Route<'a>) -> Block<'a>
-        requires { start_of (first_stage (stages_along route)) (first_block (route_of (stages_along route)) + 1) < 2 ^ 36 }
+        requires { start_of (first_along route) (first_block (steps_along route) + 1) < 2 ^ 36 }
         ensures route { result.route ≡ route.entry }
-        ensures begin { result.begin ≡ first_block (route_of (stages_along route.entry)) }
+        ensures begin { result.begin ≡ first_block (steps_along route.entry) }
         ensures before { result.before ≡ None }
     {
         let near = route.ahead(0);
@@ -55,9 +55,9 @@ impl<'a> Block<'a> {
     }
 
     fn next(&self) -> Block<'a>
-        requires { start_of (first_stage (stages_along self.now.route)) (next_block (route_of (stages_along self.now.route)) self.now.begin + 1) < 2 ^ 36 }
+        requires { start_of (first_along self.now.route) (next_block (steps_along self.now.route) self.now.begin + 1) < 2 ^ 36 }
         ensures route { result.route ≡ self.now.route }
-        ensures begin { result.begin ≡ next_block (route_of (stages_along self.now.route)) self.now.begin }
+        ensures begin { result.begin ≡ next_block (steps_along self.now.route) self.now.begin }
         ensures before { result.before ≡ Some self.now.begin }
     {
         let near = self.far;
@@ -74,7 +74,7 @@ impl<'a> Block<'a> {
 
     // The longest path that counts, where any does.
     fn longest(&self, semantics: Semantics) -> Option<Longest>
-        requires { IfSome (origin_in semantics self.now.begin self.now.before) (λ o. start_of (first_stage (stages_along self.now.route)) o ≤ stop_of (last_stage (stages_along self.now.route)) (end_in semantics self.now.near self.now.far)) }
+        requires { IfSome (origin_in semantics self.now.begin self.now.before) (λ o. start_of (first_along self.now.route) o ≤ stop_of (last_along self.now.route) (end_in semantics self.now.near self.now.far)) }
         ensures { LongestOf semantics self.now result }
     {
         let origin = semantics.origin(self.begin, self.before)?;
@@ -92,10 +92,10 @@ impl<'a> Block<'a> {
 // The longest path that counts, of those with the largest delay the one that ends first.
 pub(crate) fn longest_path(route: Route, semantics: Semantics, span: u32) -> Longest
     requires common { Common span (stages_along route) }
-    requires short { span ≤ 100_000_000 }
+    requires short { span ≤ MAX_MACRO_PERIOD }
     ensures figure { Figure semantics (stages_along route.entry) result.delay (shown_predecessor semantics result.origin) (witness_to (stages_along route.entry) result.last) }
-    ensures there { 0 < (route_of (stages_along route.entry)).back (result.last + 1) }
-    ensures early { start_of (last_stage (stages_along route.entry)) result.last < 2 ^ 40 }
+    ensures there { 0 < (steps_along route.entry).back (result.last + 1) }
+    ensures early { start_of (last_along route.entry) result.last < 2 ^ 40 }
 {
     let mut block = Block::first(route);
     // Everything repeats a span after the first block, so later blocks show nothing new.

@@ -1,4 +1,5 @@
-// Steps along a whole route: ahead from its first stage to its last, and back.
+// A route, and steps along all of it: ahead from its first stage to its last, and back.
+// Times stay below 2^36 microseconds at the first stage and 2^40 at the last, so that they fit.
 ghost use Rattle.std.specs.Prelude.{◌≡◌, ℕ, ◌+◌, ◌^◌, ◌<◌, ◌≤◌, length, take, drop, Some, MatchResult, slice_index};
 ghost use Rattle.stage.specs.Periods.{IsMacroPeriod};
 ghost use Rattle.stage.specs.Stages.{start_of};
@@ -6,8 +7,7 @@ ghost use Rattle.path.specs.declared.delay.TheConstants.{MAX_LENGTH};
 ghost use Rattle.path.specs.Given.{stage_in, stages_of};
 ghost use Rattle.path.specs.Periods.{instances_in};
 ghost use Rattle.path.specs.Refusals.{Refused, cycles_of};
-ghost use Rattle.path.specs.Timed.{first_stage, last_stage};
-ghost use Rattle.path.specs.Steps.{route_of, witness_to};
+ghost use Rattle.path.specs.Steps.{witness_to};
 
 use crate::delay::{MAX_LENGTH, SearchFault};
 use crate::hop::Hop;
@@ -23,7 +23,7 @@ pub(crate) struct Route<'a> {
 }
 
 impl<'a> Route<'a> {
-    ghost use Rattle.path.specs.Route.{stages_along};
+    ghost use Rattle.path.specs.Route.{first_along, last_along, stages_along, steps_along};
 
     // The route along the rows, where there are 1 to `MAX_LENGTH` of them.
     pub(crate) fn new(rows: &'a [LawfulRow]) -> Result<Route<'a>, SearchFault>
@@ -36,24 +36,24 @@ impl<'a> Route<'a> {
     }
 
     pub(crate) fn first(&self) -> &'a LawfulRow
-        ensures { stage_in result.now ≡ first_stage (stages_along self.now) }
+        ensures { stage_in result.now ≡ first_along self.now }
     {
-        &self.rows[0]
+        self.rows.first().unwrap()
     }
 
     pub(crate) fn last(&self) -> &'a LawfulRow
-        ensures { stage_in result.now ≡ last_stage (stages_along self.now) }
+        ensures { stage_in result.now ≡ last_along self.now }
     {
-        &self.rows[self.rows.len() - 1]
+        self.rows.last().unwrap()
     }
 
     // How many instances of the first stage start in the span.
     pub(crate) fn instances_in(&self, span: u32) -> u64
-        ensures count { result ≡ instances_in span (first_stage (stages_along self.now)) }
+        ensures count { result ≡ instances_in span (first_along self.now) }
         ensures small { result < 2 ^ 40 }
     {
         let row = self.first().row();
-        (span / row.cycle) as u64 * row.count as u64
+        u64::from(span / row.cycle) * u64::from(row.count)
     }
 
     // The cycle of stage `k`, and 0 past the last one.
@@ -74,9 +74,9 @@ impl<'a> Route<'a> {
 
     // The first instance of the last stage that instance `i` of the first stage leads to.
     pub(crate) fn ahead(&self, i: u64) -> u64
-        requires { start_of (first_stage (stages_along self.now)) i < 2 ^ 36 }
-        ensures ahead { result ≡ (route_of (stages_along self.now)).ahead i }
-        ensures early { start_of (last_stage (stages_along self.now)) result < 2 ^ 40 }
+        requires { start_of (first_along self.now) i < 2 ^ 36 }
+        ensures ahead { result ≡ (steps_along self.now).ahead i }
+        ensures early { start_of (last_along self.now) result < 2 ^ 40 }
     {
         let mut at = i;
         for [writer, reader] in self.rows.array_windows::<2>() {
@@ -87,9 +87,9 @@ impl<'a> Route<'a> {
 
     // The first instance of the path that ends at instance `j` of the last stage; there is one.
     pub(crate) fn back(&self, j: u64) -> u64
-        requires early { start_of (last_stage (stages_along self.now)) j < 2 ^ 40 }
-        requires there { 0 < (route_of (stages_along self.now)).back (j + 1) }
-        ensures { result + 1 ≡ (route_of (stages_along self.now)).back (j + 1) }
+        requires early { start_of (last_along self.now) j < 2 ^ 40 }
+        requires there { 0 < (steps_along self.now).back (j + 1) }
+        ensures { result + 1 ≡ (steps_along self.now).back (j + 1) }
     {
         let mut at = j;
         for [writer, reader] in self.rows.array_windows::<2>().rev() {
@@ -101,8 +101,8 @@ impl<'a> Route<'a> {
     // Writes the path that ends at instance `j` of the last stage into the front of `path`; there is one.
     pub(crate) fn write_path(&self, j: u64, path: &mut [u64])
         requires room { length (stages_along self.now) ≤ length path.old }
-        requires early { start_of (last_stage (stages_along self.now)) j < 2 ^ 40 }
-        requires there { 0 < (route_of (stages_along self.now)).back (j + 1) }
+        requires early { start_of (last_along self.now) j < 2 ^ 40 }
+        requires there { 0 < (steps_along self.now).back (j + 1) }
         ensures written { take (length (stages_along self.now)) path.new ≡ witness_to (stages_along self.now) j }
         ensures rest { drop (length (stages_along self.now)) path.new ≡ drop (length (stages_along self.now)) path.old }
     {

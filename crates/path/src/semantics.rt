@@ -81,6 +81,7 @@ impl fmt::Display for Semantics {
     }
 }
 
+// Each match says what one letter means for all four: shorter forms would name the letters once more.
 impl Semantics {
     // The instance from which delays are counted in the block that begins at `begin`, after the one at `before`. There
     // is none where its paths do not count: a first block has no predecessor.

@@ -1,6 +1,5 @@
-use Rattle.std.proofs.Common.{◌+◌, ◌<◌, ◌^◌, Option, sym, subst, arith, rules, tests}
-use Rattle.path.specs.declared.largest.Longest.{Longest}
-use Rattle.path.proofs.Searching.{Reached, last_block_small, reached_start, taking, found_positive, visit_found, visit_kept, visit_none, reached_next, on_time, later, found_some, reached_figure, reached_there, reached_early, is_longer, is_no_longer, first_on_time}
+use Rattle.std.proofs.Common.{◌+◌, ◌<◌, ◌^◌, arith, rules, tests}
+use Rattle.path.proofs.Searching.{last_block_small, reached_start, taking, found_positive, visit_found, visit_kept, visit_none, reached_next, on_time, later, found_some, reached_end, is_longer, is_no_longer, first_on_time}
 use Rattle.path.proofs.largest.longest_path.Goals as goal
 use Rattle.path.proofs.largest.longest_path.Goals.{in-Some+then-is_none_or, in-Some+else-is_none_or, in_default}
 
@@ -27,10 +26,6 @@ next-block-requires c = on_time _ _ _ _ _ _ c.loop-block.invariant c.requires.sh
 pub loop-block-smaller : goal.loop-block-smaller
 loop-block-smaller c = omega (arith, c.next-block.ensures.begin, later _ _ _ _ _ _ c.loop-block.invariant)
 
--- the next block is reached with this as the best
-abbrev NextWith : goal.After-next-block → Option Longest → Type 0
-NextWith c best = Reached c.args.semantics c.args.route c.args.span (c.first-block.result.begin + c.instances_in.result) c.next-block.result best
-
 pub loop-block-preserved : goal.loop-block-preserved
 loop-block-preserved c =
     let v = c.loop-block.invariant in
@@ -39,15 +34,12 @@ loop-block-preserved c =
       | in-Some+then-is_none_or w ↦
           let longer = is_longer c.loop-block.best w.in-Some.found _ (found_positive _ _ _ _ _ _ v _ w.in-Some.ensures) w.if-is_none_or.ensures
           (λ b q. search (rules, tests)) in
-          subst (NextWith c) (sym w.best-is)
-          (reached_next _ _ _ _ _ _ v _ _ next.route next.begin next.before (visit_found _ _ _ _ _ _ v w.in-Some.found w.in-Some.ensures longer))
+          reached_next _ _ _ _ _ _ v _ _ _ next.route next.begin next.before w.best-is (visit_found _ _ _ _ _ _ v w.in-Some.found w.in-Some.ensures longer)
       | in-Some+else-is_none_or w ↦
           let shorter = is_no_longer c.loop-block.best w.in-Some.found _ w.if-is_none_or.ensures (λ b q. search (rules, tests)) in
-          subst (NextWith c) (sym w.best-is)
-          (reached_next _ _ _ _ _ _ v _ _ next.route next.begin next.before (visit_kept _ _ _ _ _ _ v w.in-Some.found w.in-Some.ensures shorter))
+          reached_next _ _ _ _ _ _ v _ _ _ next.route next.begin next.before w.best-is (visit_kept _ _ _ _ _ _ v w.in-Some.found w.in-Some.ensures shorter)
       | in_default w ↦
-          subst (NextWith c) (sym w.best-is)
-          (reached_next _ _ _ _ _ _ v _ _ next.route next.begin next.before (visit_none _ _ _ _ _ _ v w.in_default.ensures))
+          reached_next _ _ _ _ _ _ v _ _ _ next.route next.begin next.before w.best-is (visit_none _ _ _ _ _ _ v w.in_default.ensures)
     ]
 
 pub unwrap-requires : goal.unwrap-requires
@@ -55,8 +47,5 @@ unwrap-requires c = found_some _ _ _ _ _ _ c.loop-block.invariant c.loop-block-t
 
 pub returns : goal.returns
 returns c =
-    record {
-      figure = reached_figure _ _ _ _ _ _ c.loop-block.invariant c.loop-block-test.false _ c.unwrap.ensures;
-      there = reached_there _ _ _ _ _ _ c.loop-block.invariant c.loop-block-test.false _ c.unwrap.ensures;
-      early = reached_early _ _ _ _ _ _ c.loop-block.invariant c.loop-block-test.false _ c.unwrap.ensures;
-    }
+    let end = reached_end _ _ _ _ _ _ c.loop-block.invariant c.loop-block-test.false _ c.unwrap.ensures in
+    record { figure = end.figure; there = end.there; early = end.early }

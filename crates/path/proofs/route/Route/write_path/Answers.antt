@@ -1,44 +1,9 @@
-use Rattle.std.proofs.Common.{◌∙◌, ◌-◌, length, take, drop, set, ap, sym, subst, arith}
+use Rattle.std.proofs.Common.{◌∙◌, length, take, drop, ap, sym, arith}
 use Rattle.std.proofs.lemmas.List.{length-set, length-take-le}
-use Rattle.std.specs.Iterator.Adapters.{rev_source, enumerate_source, enumerate_count}
-use Rattle.std.specs.Slice.Iter.{windows_rest, windows_size}
-use Rattle.path.proofs.Walking.{Traced, traced_none, traced_early, traced_there, traced_more, traced_witness}
-use Rattle.path.proofs.Writing.{Writing, writing_none, writing_more, writing_all}
+use Rattle.path.proofs.Walking.{traced_early, traced_there, traced_more, traced_witness}
+use Rattle.path.proofs.Writing.{writing_more, writing_all}
 use Rattle.path.proofs.Given.{stages_length}
 use Rattle.path.proofs.route.Route.write_path.Goals as goal
-
-pub bounds-path-k : goal.bounds-path-k
-bounds-path-k c =
-    let turn = c.in-Some.ensures.steps.1.0.1 in
-    let long = c.loop-k.auto.path ∙ length-set _ _ _ in
-    let shorter = ap length turn.2 ∙ length-take-le _ _ (omega arith) in
-    omega (
-      arith,
-      c.requires.room,
-      stages_length c.args.self.now.rows.now,
-      c.in-Some.ensures.steps.1.1,
-      c.loop-k.invariant.2,
-      c.loop-k.invariant.4.within,
-      c.in-Some.ensures.steps.1.0.0,
-      c.loop-k.invariant.0.0.1,
-      turn.0,
-    )
-
-pub loop-k-init : goal.loop-k-init
-loop-k-init c =
-    let rows = c.args.self.now.rows.now in
-    let outer = ap rev_source c.into_iter-k-iterator.ensures.into_iter_gives ∙ c.rev-k-items.ensures.source in
-    let source = ap enumerate_source outer ∙ c.enumerate.ensures.source in
-    let two = ap (λ s. windows_size s.parts) source ∙ c.array_windows.ensures.size in
-    let all = ap (λ s. windows_rest s.parts) source ∙ c.array_windows.ensures.rest in
-    let none = ap enumerate_count outer ∙ c.enumerate.ensures.count in (
-      ((omega (arith, two), two), tt, omega (arith, none, ap length all, c.args.self.now.few)),
-      tt,
-      none,
-      subst (λ l. Traced rows l c.args.j c.args.j) (sym all) (traced_none rows c.args.j c.args.self.now.some c.requires.early),
-      subst (λ l. Writing rows l c.args.j c.args.j (set c.args.path.now (length rows - 1) c.args.j) c.args.path.now) (sym all)
-          (writing_none rows c.args.j c.args.path.now (omega (arith, c.requires.room, stages_length rows)) c.args.self.now.some),
-    )
 
 pub back-at-requires : goal.back-at-requires
 back-at-requires c =
