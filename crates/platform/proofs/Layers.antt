@@ -10,11 +10,11 @@ use Rattle.platform.specs.Thins.{thin_stage, EveryThinning}
 use Rattle.platform.specs.LayerSoundness.{thin_count, thin_start, thin_stop, start_later, stop_later, mark_start, mark_stop, before_early, phase_count, phase_start, phase_stop, shift_low, staying_within, leaves, phase_lawful}
 
 -- an instance, by its cycle and its mark
-pub start_by : (t : Stage) (k i : ℕ) → count_of t ≡ k → start_of t i ≡ i / k * t.cycle + (mark_of t (i % k)).0
+start_by : (t : Stage) (k i : ℕ) → count_of t ≡ k → start_of t i ≡ i / k * t.cycle + (mark_of t (i % k)).0
 unfolding start_of
 start_by t k i e = subst (λ n. start_of t i ≡ i / n * t.cycle + (mark_of t (i % n)).0) e refl
 
-pub stop_by : (t : Stage) (k i : ℕ) → count_of t ≡ k → stop_of t i ≡ i / k * t.cycle + (mark_of t (i % k)).1
+stop_by : (t : Stage) (k i : ℕ) → count_of t ≡ k → stop_of t i ≡ i / k * t.cycle + (mark_of t (i % k)).1
 unfolding stop_of
 stop_by t k i e = subst (λ n. stop_of t i ≡ i / n * t.cycle + (mark_of t (i % n)).1) e refl
 
@@ -27,23 +27,28 @@ module _ (n r : ℕ) (s : Stage) (l : Lawful s) (i : ℕ) where
   unfolding thin_stage
   thin_cycle = refl
 
+  -- a start or a stop of the stage above, from its mark and the instance below
+  thin_times : (time : Stage → ℕ → ℕ) (part : ℕ × ℕ → ℕ) → let t = thin_stage n r s in let a = i % count_of s in let q = i / count_of s in
+      time t i ≡ q * t.cycle + part (mark_of t a) → part (mark_of t a) ≡ time s (n * a + r)
+      → time s (n * a + r + n * q * count_of s) ≡ time s (n * a + r) + n * q * s.cycle → time t i ≡ time s (n * i + r)
+  thin_times time part above mark later =
+      let cycles = ap (λ x. i / count_of s * x) thin_cycle in
+      let here = ap (time s) below_at in
+      omega arith
+
   thin_starts : start_of (thin_stage n r s) i ≡ start_of s (n * i + r)
   thin_starts =
-      let above = start_by (thin_stage n r s) (count_of s) i (thin_count n r s) in
-      let cycles = ap (λ x. i / count_of s * x) thin_cycle in
-      let mark = thin_start n r s (i % count_of s) (mod-lt i l.count_low) in
-      let later = start_later s l (n * (i / count_of s)) (n * (i % count_of s) + r) in
-      let here = ap (start_of s) below_at in
-      omega arith
+      thin_times start_of (λ m. m.0)
+      (start_by (thin_stage n r s) (count_of s) i (thin_count n r s))
+      (thin_start n r s (i % count_of s) (mod-lt i l.count_low))
+      (start_later s l (n * (i / count_of s)) (n * (i % count_of s) + r))
 
   thin_stops : stop_of (thin_stage n r s) i ≡ stop_of s (n * i + r)
   thin_stops =
-      let above = stop_by (thin_stage n r s) (count_of s) i (thin_count n r s) in
-      let cycles = ap (λ x. i / count_of s * x) thin_cycle in
-      let mark = thin_stop n r s (i % count_of s) (mod-lt i l.count_low) in
-      let later = stop_later s l (n * (i / count_of s)) (n * (i % count_of s) + r) in
-      let here = ap (stop_of s) below_at in
-      omega arith
+      thin_times stop_of (λ m. m.1)
+      (stop_by (thin_stage n r s) (count_of s) i (thin_count n r s))
+      (thin_stop n r s (i % count_of s) (mod-lt i l.count_low))
+      (stop_later s l (n * (i / count_of s)) (n * (i % count_of s) + r))
 
 pub every_thinning : EveryThinning
 unfolding thin_stage
