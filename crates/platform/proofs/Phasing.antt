@@ -7,7 +7,7 @@ use Rattle.stage.proofs.Order.{in_order}
 use Rattle.platform.specs.Platforms.{described}
 use Rattle.platform.specs.Layers.{Shaped, instanced, marks_before}
 use Rattle.platform.specs.Phases.{before, phase_stage, phased}
-use Rattle.platform.specs.LayerSoundness.{mark_start, starts_not_fall, before_stops, phase_count, leaves, remains, staying_within}
+use Rattle.platform.specs.LayerSoundness.{mark_start, starts_not_fall, before_within, before_early, before_stops, phase_count, leaves, remains, staying_within}
 
 pub phase_described : (d : ℕ) (o : Option Stage) → described o ≡ described (phased d o)
 unfolding phase_stage
@@ -23,6 +23,9 @@ before_covers s l end a h e =
     let up = starts_not_fall s l first a k in
     omega (arith, before_stops end s.marks (omega arith), mark_start s l first (omega arith), mark_start s l a h))
     (cases_lt a first)
+
+-- what the search for that mark is found by
+pub ruleset halving = (before_within, before_early, before_covers)
 
 -- where the instance below stands that becomes a mark
 pub record Placed (cycle shift start stop : ℕ) : Type 0 where

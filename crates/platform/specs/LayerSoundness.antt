@@ -29,6 +29,9 @@ module _ (n r : ℕ) (s : Stage) where
   pub thin_stop : (a : ℕ) → a < count_of s → (mark_of (thin_stage n r s) a).1 ≡ stop_of s (n * a + r)
   thin_stop a h = ap (λ m. m.1) (thin_mark a h)
 
+-- what a thin's answers are found by
+pub ruleset thin_answers = (thin_count, thin_mark)
+
 -- what a lawful stage's instances keep, as the layers use it
 module _ (s : Stage) (l : Lawful s) where
   order : InOrder s
@@ -151,6 +154,9 @@ module _ (d : ℕ) (s : Stage) where
 
   pub phase_stop : (a : ℕ) → a < count_of s → (mark_of (phase_stage d s) a).1 ≡ stop_of s (staying d s + a) + d % s.cycle - s.cycle
   phase_stop a h = ap (λ m. m.1) (phase_mark a h)
+
+-- what a phase's answers are found by
+pub ruleset phase_answers = (phase_count, phase_mark, before_within)
 
 module _ (d : ℕ) (s : Stage) (l : Lawful s) where
   pub shift_low : d % s.cycle < s.cycle

@@ -36,7 +36,7 @@ impl<P: Platform> Platform for Phase<P> {
         self.below.describe(number)
     }
 
-    #[tactic(auto, using(crate::specs::LayerSoundness::phase_count, crate::specs::LayerSoundness::phase_mark, crate::specs::LayerSoundness::before_within))]
+    #[tactic(auto, using(crate::specs::LayerSoundness::phase_answers))]
     fn mark(&self, number: Number, a: u8) -> Option<(u32, u32)> {
         let Some(stage) = StageBelow::find(&self.below, number) else {
             return None;
