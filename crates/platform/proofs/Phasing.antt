@@ -1,7 +1,6 @@
 -- What a phase layer answers, from what the platform below answers.
 -- Assumes nothing.
-use Rattle.std.proofs.Common.{◌≡◌, ℕ, ◌+◌, ◌-◌, ◌%◌, ◌<◌, ◌≤◌, Some, None, Option, sym, refl, ap, ⊎_elim, arith}
-use Rattle.std.proofs.lemmas.Bool.{cases_lt}
+use Rattle.std.proofs.Common.{◌≡◌, ℕ, ◌+◌, ◌-◌, ◌%◌, ◌<◌, ◌≤◌, Some, None, Option, sym, refl, ap, arith}
 use Rattle.stage.specs.Stages.{Stage, Lawful, count_of, mark_of}
 use Rattle.stage.proofs.Order.{in_order}
 use Rattle.platform.specs.Platforms.{described}
@@ -18,11 +17,7 @@ phase_described d (Some s) = ap (λ k. Some (s.cycle, k, s.rank)) (sym (phase_co
 pub before_covers : (s : Stage) → Lawful s → (end a : ℕ) → a < count_of s → (mark_of s a).0 < end → a < before end s.marks
 before_covers s l end a h e =
     let first : ℕ = before end s.marks in
-    ⊎_elim (λ k. k)
-    (λ k.
-    let up = starts_not_fall s l first a k in
-    omega (arith, before_stops end s.marks (omega arith), mark_start s l first (omega arith), mark_start s l a h))
-    (cases_lt a first)
+    grind (arith, before_stops end s.marks, starts_not_fall s l first a, mark_start s l first, mark_start s l a)
 
 -- what the search for that mark is found by
 pub ruleset halving = (before_within, before_early, before_covers)
