@@ -22,25 +22,13 @@ before_covers s l end a h e =
 -- what the search for that mark is found by
 pub ruleset halving = (before_within, before_early, before_covers)
 
--- where the instance below stands that becomes a mark
-pub record Placed (cycle shift start stop : ℕ) : Type 0 where
-  pub cycle_high : cycle ≤ 100_000_000
-  pub leaves_cycle : cycle ≤ start + shift
-  pub start_high : start + shift < cycle + cycle
-  pub stop_low : start < stop
-  pub stop_high : stop ≤ start + cycle
-
-pub placed : (d : ℕ) (o : Option Stage) (cycle count : ℕ) (p : Shaped o cycle count) (a first start stop : ℕ)
-    → first ≡ marks_before (cycle - d % cycle) o → a < count → Some (start, stop) ≡ instanced o (first + a)
-    → Placed cycle (d % cycle) start stop
-placed d o cycle count p a first start stop e h k =
+-- an instance below that becomes a mark leaves its cycle
+pub leaves_cycle : (d : ℕ) (o : Option Stage) (cycle count : ℕ) (p : Shaped o cycle count) (a first start stop : ℕ)
+    → first ≡ marks_before (cycle - d % cycle) o → Some (start, stop) ≡ instanced o (first + a)
+    → (cycle - d % cycle ≤ start) × (start < stop)
+leaves_cycle d o cycle count p a first start stop e k =
     let s = p.stage in
-    let l = p.lawful in
-    let order = in_order s l in
-    record {
-      cycle_high = omega (arith, l.cycle_high, p.cycle_is);
-      leaves_cycle = grind (arith, leaves d s l (first + a));
-      start_high = grind (arith, remains d s l (first + a), staying_within d s l);
-      stop_low = grind (arith, order.start_before_stop (first + a));
-      stop_high = grind (arith, order.stop_before_next (first + a), order.next_within_cycle (first + a));
-    }
+    let l = p.lawful in (
+      grind (arith, leaves d s l (first + a)),
+      grind (arith, (in_order s l).start_before_stop (first + a)),
+    )

@@ -45,8 +45,10 @@ impl<P: Platform> Platform for Phase<P> {
             return None;
         }
         let moved = self.shift % stage.cycle;
-        let first = stage.marks_before(stage.cycle - moved);
+        // marks that start from here on leave the cycle, and come first in the next
+        let end = stage.cycle - moved;
+        let first = stage.marks_before(end);
         let (start, stop) = stage.instance(first as u32 + a as u32);
-        Some((start + moved - stage.cycle, stop + moved - stage.cycle))
+        Some((start - end, stop - end))
     }
 }
