@@ -1,6 +1,6 @@
 -- What the layers promise of every lawful stage.
 -- Assumes nothing.
-use Rattle.std.proofs.Common.{◌≡◌, ℕ, ◌+◌, ◌-◌, ◌*◌, ◌/◌, ◌%◌, ◌<◌, ◌≤◌, refl, ap, ◌∙◌, subst, ⊎_elim, mod-lt, mod-eq_of_lt, div-add-mod', arith}
+use Rattle.std.proofs.Common.{◌≡◌, ℕ, ◌+◌, ◌-◌, ◌*◌, ◌/◌, ◌%◌, ◌<◌, ◌≤◌, refl, ap, subst, ⊎_elim, mod-lt, mod-eq_of_lt, div-add-mod', arith}
 use native.Mathlib.Nat.{add-mod_right}
 use Rattle.std.proofs.lemmas.Bool.{cases_lt}
 use Rattle.stage.specs.Stages.{Stage, Lawful, count_of, mark_of, start_of, stop_of}
@@ -10,11 +10,11 @@ use Rattle.platform.specs.Thins.{thin_stage, EveryThinning}
 use Rattle.platform.specs.LayerSoundness.{thin_count, thin_start, thin_stop, start_later, stop_later, mark_start, mark_stop, before_early, phase_count, phase_start, phase_stop, shift_low, staying_within, leaves, phase_lawful}
 
 -- an instance, by its cycle and its mark
-pub start_by : (t : Stage) (k i : ℕ) → count_of t ≡ k → start_of t i ≡ i / k * t.cycle + (mark_of t (i % k)).0
+start_by : (t : Stage) (k i : ℕ) → count_of t ≡ k → start_of t i ≡ i / k * t.cycle + (mark_of t (i % k)).0
 unfolding start_of
 start_by t k i e = subst (λ n. start_of t i ≡ i / n * t.cycle + (mark_of t (i % n)).0) e refl
 
-pub stop_by : (t : Stage) (k i : ℕ) → count_of t ≡ k → stop_of t i ≡ i / k * t.cycle + (mark_of t (i % k)).1
+stop_by : (t : Stage) (k i : ℕ) → count_of t ≡ k → stop_of t i ≡ i / k * t.cycle + (mark_of t (i % k)).1
 unfolding stop_of
 stop_by t k i e = subst (λ n. stop_of t i ≡ i / n * t.cycle + (mark_of t (i % n)).1) e refl
 
@@ -27,23 +27,28 @@ module _ (n r : ℕ) (s : Stage) (l : Lawful s) (i : ℕ) where
   unfolding thin_stage
   thin_cycle = refl
 
+  -- a start or a stop of the stage above, from its mark and the instance below
+  thin_times : (time : Stage → ℕ → ℕ) (part : ℕ × ℕ → ℕ) → let t = thin_stage n r s in let a = i % count_of s in let q = i / count_of s in
+      time t i ≡ q * t.cycle + part (mark_of t a) → part (mark_of t a) ≡ time s (n * a + r)
+      → time s (n * a + r + n * q * count_of s) ≡ time s (n * a + r) + n * q * s.cycle → time t i ≡ time s (n * i + r)
+  thin_times time part above mark later =
+      let cycles = ap (λ x. i / count_of s * x) thin_cycle in
+      let here = ap (time s) below_at in
+      omega arith
+
   thin_starts : start_of (thin_stage n r s) i ≡ start_of s (n * i + r)
   thin_starts =
-      let above = start_by (thin_stage n r s) (count_of s) i (thin_count n r s) in
-      let cycles = ap (λ x. i / count_of s * x) thin_cycle in
-      let mark = thin_start n r s (i % count_of s) (mod-lt i l.count_low) in
-      let later = start_later s l (n * (i / count_of s)) (n * (i % count_of s) + r) in
-      let here = ap (start_of s) below_at in
-      omega arith
+      thin_times start_of (λ m. m.0)
+      (start_by (thin_stage n r s) (count_of s) i (thin_count n r s))
+      (thin_start n r s (i % count_of s) (mod-lt i l.count_low))
+      (start_later s l (n * (i / count_of s)) (n * (i % count_of s) + r))
 
   thin_stops : stop_of (thin_stage n r s) i ≡ stop_of s (n * i + r)
   thin_stops =
-      let above = stop_by (thin_stage n r s) (count_of s) i (thin_count n r s) in
-      let cycles = ap (λ x. i / count_of s * x) thin_cycle in
-      let mark = thin_stop n r s (i % count_of s) (mod-lt i l.count_low) in
-      let later = stop_later s l (n * (i / count_of s)) (n * (i % count_of s) + r) in
-      let here = ap (stop_of s) below_at in
-      omega arith
+      thin_times stop_of (λ m. m.1)
+      (stop_by (thin_stage n r s) (count_of s) i (thin_count n r s))
+      (thin_stop n r s (i % count_of s) (mod-lt i l.count_low))
+      (stop_later s l (n * (i / count_of s)) (n * (i % count_of s) + r))
 
 pub every_thinning : EveryThinning
 unfolding thin_stage
@@ -57,35 +62,25 @@ every_thinning n r s some few below l fits =
     }
 
 module _ (d : ℕ) (s : Stage) (l : Lawful s) where
-  -- mark a above is mark b below, which left the cycle and comes back one cycle earlier
-  module _ (a b : ℕ) (e : staying d s + a ≡ b) (k : b < count_of s) where
-    wraps_start : (mark_of (phase_stage d s) a).0 + s.cycle ≡ (mark_of s b).0 + d % s.cycle
-    wraps_start =
-        omega (arith, phase_start d s a (omega arith), ap (start_of s) e, mark_start s l b k, leaves d s l b (omega arith))
+  -- mark a above is mark b below, moved and then taken back by `back`
+  record IsMoved (a b back : ℕ) : Type 0 where
+    above_starts : (mark_of (phase_stage d s) a).0 + back ≡ (mark_of s b).0 + d % s.cycle
+    above_stops : (mark_of (phase_stage d s) a).1 + back ≡ (mark_of s b).1 + d % s.cycle
 
-    wraps_stop : (mark_of (phase_stage d s) a).1 + s.cycle ≡ (mark_of s b).1 + d % s.cycle
-    wraps_stop =
-        omega (
-          arith,
-          phase_stop d s a (omega arith),
-          ap (stop_of s) e,
-          mark_start s l b k,
-          mark_stop s l b k,
-          leaves d s l b (omega arith),
-          l.stop_after_start b k,
-        )
+  -- a mark that leaves the cycle comes back one cycle earlier
+  wraps : (a b : ℕ) → staying d s + a ≡ b → b < count_of s → IsMoved a b s.cycle
+  wraps a b e k =
+      record {
+        above_starts = grind (arith, phase_start d s a, mark_start s l b, leaves d s l b);
+        above_stops = grind (arith, phase_stop d s a, mark_start s l b, mark_stop s l b, leaves d s l b, l.stop_after_start b);
+      }
 
-  -- mark a above is mark b below, which stays in the cycle
-  module _ (a b : ℕ) (e : staying d s + a ≡ b + count_of s) (k : b < staying d s) where
-    stays_start : (mark_of (phase_stage d s) a).0 ≡ (mark_of s b).0 + d % s.cycle
-    stays_start =
-        let w = staying_within d s l in
-        omega (arith, phase_start d s a (omega arith), ap (start_of s) e, mark_start s l b (omega arith), (in_order s l).start_shift b)
-
-    stays_stop : (mark_of (phase_stage d s) a).1 ≡ (mark_of s b).1 + d % s.cycle
-    stays_stop =
-        let w = staying_within d s l in
-        omega (arith, phase_stop d s a (omega arith), ap (stop_of s) e, mark_stop s l b (omega arith), (in_order s l).stop_shift b)
+  stays : (a b : ℕ) → staying d s + a ≡ b + count_of s → b < staying d s → IsMoved a b 0
+  stays a b e k =
+      record {
+        above_starts = grind (arith, staying_within d s l, phase_start d s a, mark_start s l b, (in_order s l).start_shift b);
+        above_stops = grind (arith, staying_within d s l, phase_stop d s a, mark_stop s l b, (in_order s l).stop_shift b);
+      }
 
   -- the time below of a time before the shift, and of one from the shift on
   time_wraps : (time : ℕ) → time < d % s.cycle → time_below d s time ≡ time + s.cycle - d % s.cycle
@@ -93,16 +88,16 @@ module _ (d : ℕ) (s : Stage) (l : Lawful s) where
 
   time_stays : (time : ℕ) → d % s.cycle ≤ time → time < s.cycle → time_below d s time ≡ time - d % s.cycle
   time_stays time h k =
-      let at : time + s.cycle - d % s.cycle ≡ time - d % s.cycle + s.cycle = omega arith in
-      ap (λ x. x % s.cycle) at ∙ (add-mod_right (time - d % s.cycle) s.cycle ∙ mod-eq_of_lt (omega arith))
+      let back : ℕ = time - d % s.cycle in
+      let same : back % s.cycle ≡ back = mod-eq_of_lt (omega arith) in
+      grind (arith, add-mod_right back s.cycle)
 
   -- a mark leaves the cycle just where its number says so
   leaves_from : (b : ℕ) → s.cycle ≤ (mark_of s b).0 + d % s.cycle → staying d s ≤ b
-  leaves_from b h =
-      ⊎_elim (λ k. omega (arith, before_early (s.cycle - d % s.cycle) s.marks b k)) (λ k. k) (cases_lt b (staying d s))
+  leaves_from b h = grind (arith, before_early (s.cycle - d % s.cycle) s.marks b)
 
   stays_before : (b : ℕ) → b < count_of s → (mark_of s b).0 + d % s.cycle < s.cycle → b < staying d s
-  stays_before b h k = ⊎_elim (λ e. e) (λ e. omega (arith, mark_start s l b h, leaves d s l b e)) (cases_lt b (staying d s))
+  stays_before b h k = grind (arith, mark_start s l b h, leaves d s l b)
 
   to_above : (time span : ℕ) → time < s.cycle → Runs s (time_below d s time) span → Runs (phase_stage d s) time span
   to_above time span h run =
@@ -113,23 +108,15 @@ module _ (d : ℕ) (s : Stage) (l : Lawful s) where
       (λ early.
       let t = time_wraps time early in
       let from : staying d s ≤ b = leaves_from b (omega (arith, run.starts)) in
-      let e : staying d s + (b - staying d s) ≡ b = omega arith in
-      record {
-        at = b - staying d s;
-        present = omega (arith, run.present);
-        starts = omega (arith, run.starts, wraps_start (b - staying d s) b e run.present);
-        stops = omega (arith, run.stops, wraps_stop (b - staying d s) b e run.present);
-      })
+      let a : ℕ = b - staying d s in
+      let above = wraps a b (omega arith) run.present in
+      record { at = a; present = omega (arith, run.present); starts = omega (arith, run.starts); stops = omega (arith, run.stops) })
       (λ late.
       let t = time_stays time late h in
       let from : b < staying d s = stays_before b run.present (omega (arith, run.starts)) in
-      let e : staying d s + (b + count_of s - staying d s) ≡ b + count_of s = omega arith in
-      record {
-        at = b + count_of s - staying d s;
-        present = omega arith;
-        starts = omega (arith, run.starts, stays_start (b + count_of s - staying d s) b e from);
-        stops = omega (arith, run.stops, stays_stop (b + count_of s - staying d s) b e from);
-      })
+      let a : ℕ = b + count_of s - staying d s in
+      let above = stays a b (omega arith) from in
+      record { at = a; present = omega arith; starts = omega (arith, run.starts); stops = omega (arith, run.stops) })
       (cases_lt time (d % s.cycle))
 
   from_below : (time span : ℕ) → Runs (phase_stage d s) time span → Runs s (time_below d s time) span
@@ -139,28 +126,18 @@ module _ (d : ℕ) (s : Stage) (l : Lawful s) where
       let w = staying_within d s l in
       ⊎_elim
       (λ k.
-      let start = wraps_start a (staying d s + a) refl k in
-      let low = l.start_in_cycle (staying d s + a) k in
+      let b : ℕ = staying d s + a in
+      let above = wraps a b refl k in
+      let low = l.start_in_cycle b k in
       let t = time_wraps time (omega (arith, run.starts)) in
-      record {
-        at = staying d s + a;
-        present = k;
-        starts = omega (arith, run.starts);
-        stops = omega (arith, run.starts, run.stops, wraps_stop a (staying d s + a) refl k);
-      })
+      record { at = b; present = k; starts = omega (arith, run.starts); stops = omega (arith, run.starts, run.stops) })
       (λ k.
       let b : ℕ = staying d s + a - count_of s in
       let in_time : b < staying d s = omega (arith, run.present) in
-      let e : staying d s + a ≡ b + count_of s = omega arith in
-      let start = stays_start a b e in_time in
+      let above = stays a b (omega arith) in_time in
       let low = before_early (s.cycle - d % s.cycle) s.marks b in_time in
       let t = time_stays time (omega (arith, run.starts)) (omega (arith, run.starts)) in
-      record {
-        at = b;
-        present = omega arith;
-        starts = omega (arith, run.starts);
-        stops = omega (arith, run.starts, run.stops, stays_stop a b e in_time);
-      })
+      record { at = b; present = omega arith; starts = omega (arith, run.starts); stops = omega (arith, run.starts, run.stops) })
       (cases_lt (staying d s + a) (count_of s))
 
 pub every_phase : EveryPhase

@@ -1,13 +1,12 @@
 -- What a phase layer answers, from what the platform below answers.
 -- Assumes nothing.
-use Rattle.std.proofs.Common.{◌≡◌, ℕ, ◌+◌, ◌-◌, ◌%◌, ◌<◌, ◌≤◌, Some, None, Option, sym, refl, ap, ⊎_elim, arith}
-use Rattle.std.proofs.lemmas.Bool.{cases_lt}
+use Rattle.std.proofs.Common.{◌≡◌, ℕ, ◌+◌, ◌-◌, ◌%◌, ◌<◌, ◌≤◌, Some, None, Option, sym, refl, ap, arith}
 use Rattle.stage.specs.Stages.{Stage, Lawful, count_of, mark_of}
 use Rattle.stage.proofs.Order.{in_order}
 use Rattle.platform.specs.Platforms.{described}
 use Rattle.platform.specs.Layers.{Shaped, instanced, marks_before}
 use Rattle.platform.specs.Phases.{before, phase_stage, phased}
-use Rattle.platform.specs.LayerSoundness.{mark_start, starts_not_fall, before_stops, phase_count, leaves, remains, staying_within}
+use Rattle.platform.specs.LayerSoundness.{mark_start, starts_not_fall, before_within, before_early, before_stops, phase_count, leaves, remains, staying_within}
 
 pub phase_described : (d : ℕ) (o : Option Stage) → described o ≡ described (phased d o)
 unfolding phase_stage
@@ -18,31 +17,18 @@ phase_described d (Some s) = ap (λ k. Some (s.cycle, k, s.rank)) (sym (phase_co
 pub before_covers : (s : Stage) → Lawful s → (end a : ℕ) → a < count_of s → (mark_of s a).0 < end → a < before end s.marks
 before_covers s l end a h e =
     let first : ℕ = before end s.marks in
-    ⊎_elim (λ k. k)
-    (λ k.
-    let up = starts_not_fall s l first a k in
-    omega (arith, before_stops end s.marks (omega arith), mark_start s l first (omega arith), mark_start s l a h))
-    (cases_lt a first)
+    grind (arith, before_stops end s.marks, starts_not_fall s l first a, mark_start s l first, mark_start s l a)
 
--- where the instance below stands that becomes a mark
-pub record Placed (cycle shift start stop : ℕ) : Type 0 where
-  pub cycle_high : cycle ≤ 100_000_000
-  pub leaves_cycle : cycle ≤ start + shift
-  pub start_high : start + shift < cycle + cycle
-  pub stop_low : start < stop
-  pub stop_high : stop ≤ start + cycle
+-- what the search for that mark is found by
+pub ruleset halving = (before_within, before_early, before_covers)
 
-pub placed : (d : ℕ) (o : Option Stage) (cycle count : ℕ) (p : Shaped o cycle count) (a first start stop : ℕ)
-    → first ≡ marks_before (cycle - d % cycle) o → a < count → Some (start, stop) ≡ instanced o (first + a)
-    → Placed cycle (d % cycle) start stop
-placed d o cycle count p a first start stop e h k =
+-- an instance below that becomes a mark leaves its cycle
+pub leaves_cycle : (d : ℕ) (o : Option Stage) (cycle count : ℕ) (p : Shaped o cycle count) (a first start stop : ℕ)
+    → first ≡ marks_before (cycle - d % cycle) o → Some (start, stop) ≡ instanced o (first + a)
+    → (cycle - d % cycle ≤ start) × (start < stop)
+leaves_cycle d o cycle count p a first start stop e k =
     let s = p.stage in
-    let l = p.lawful in
-    let order = in_order s l in
-    record {
-      cycle_high = omega (arith, l.cycle_high, p.cycle_is);
-      leaves_cycle = grind (arith, leaves d s l (first + a));
-      start_high = grind (arith, remains d s l (first + a), staying_within d s l);
-      stop_low = grind (arith, order.start_before_stop (first + a));
-      stop_high = grind (arith, order.stop_before_next (first + a), order.next_within_cycle (first + a));
-    }
+    let l = p.lawful in (
+      grind (arith, leaves d s l (first + a)),
+      grind (arith, (in_order s l).start_before_stop (first + a)),
+    )

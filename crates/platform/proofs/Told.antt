@@ -23,3 +23,6 @@ stop_low s l b h =
 -- the cycles before an instance of the first 16 cycles
 pub whole_high : (i cycle count : ℕ) → i < 16 * count → 1 ≤ count → cycle ≤ 100_000_000 → i / count * cycle ≤ 1_600_000_000
 whole_high i cycle count soon k c = grind (arith, nat_tests)
+
+-- what an instance's answers are found by
+pub ruleset instance_limits = (whole_high, stop_low)

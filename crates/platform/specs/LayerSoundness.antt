@@ -1,13 +1,12 @@
 -- The layers' proofs that they are sound where the platform below is.
 -- Assumes nothing.
 use Rattle.std.specs.Prelude.{◌≡◌, ℕ, zero, suc, ◌+◌, ◌-◌, ◌*◌, ◌%◌, ◌<◌, ◌≤◌, List, [], ◌∷◌, length, Some, None, Option, slice_index_or, refl}
-use Rattle.std.proofs.Common.{ap, subst, ⊎_elim, mod-lt, div-lt_iff_lt-mul}
+use Rattle.std.proofs.Common.{ap, mod-lt, div-lt_iff_lt-mul}
 use Rattle.std.proofs.Math.Nat.{mul-le-mul_left, add-mul-div_right, add-mul-mod_self_right}
 use native.Mathlib.Omega.{arith}
 use Rattle.std.proofs.Math.Arith.{digits_lt}
 use Rattle.std.proofs.lemmas.List.FromFn.{length-map-range_with_len, get_or-map-range_with_len}
 use Rattle.std.proofs.lemmas.Bool.Decides.{nat_tests}
-use Rattle.std.proofs.lemmas.Bool.{cases_lt}
 use Rattle.stage.specs.Stages.{Stage, Lawful, count_of, mark_of, start_of, stop_of}
 use Rattle.stage.specs.Instances.{InOrder}
 use Rattle.stage.proofs.Order.{in_order, start_at, stop_at}
@@ -30,6 +29,9 @@ module _ (n r : ℕ) (s : Stage) where
   pub thin_stop : (a : ℕ) → a < count_of s → (mark_of (thin_stage n r s) a).1 ≡ stop_of s (n * a + r)
   thin_stop a h = ap (λ m. m.1) (thin_mark a h)
 
+-- what a thin's answers are found by
+pub ruleset thin_answers = (thin_count, thin_mark)
+
 -- what a lawful stage's instances keep, as the layers use it
 module _ (s : Stage) (l : Lawful s) where
   order : InOrder s
@@ -50,21 +52,16 @@ module _ (s : Stage) (l : Lawful s) where
       digits_lt ((div-lt_iff_lt-mul l.count_low).1 h) (l.start_in_cycle (i % count_of s) (mod-lt i l.count_low))
 
   pub starts_not_fall : (i j : ℕ) → i ≤ j → start_of s i ≤ start_of s j
-  starts_not_fall i j h =
-      grind (arith, order.starts_rise i j)
+  starts_not_fall i j h = grind (arith, order.starts_rise i j)
 
   pub stop_before_later : (i j : ℕ) → i < j → stop_of s i ≤ start_of s j
   stop_before_later i j h = omega (arith, order.stop_before_next i, starts_not_fall (i + 1) j (omega arith))
 
   pub mark_start : (a : ℕ) → a < count_of s → start_of s a ≡ (mark_of s a).0
-  mark_start a h =
-      let at : start_of s (0 * count_of s + a) ≡ (mark_of s a).0 = omega (arith, start_at s 0 a h) in
-      subst (λ i. start_of s i ≡ (mark_of s a).0) (omega arith) at
+  mark_start a h = grind (arith, start_at s 0 a h)
 
   pub mark_stop : (a : ℕ) → a < count_of s → stop_of s a ≡ (mark_of s a).1
-  mark_stop a h =
-      let at : stop_of s (0 * count_of s + a) ≡ (mark_of s a).1 = omega (arith, stop_at s 0 a h) in
-      subst (λ i. stop_of s i ≡ (mark_of s a).1) (omega arith) at
+  mark_stop a h = grind (arith, stop_at s 0 a h)
 
 -- The marks of t are instances of s, in order, each moved by `later` and back by `earlier`; m cycles of s make one of t.
 record Drawn (s t : Stage) (m : ℕ) (at : ℕ → ℕ) (later earlier : ℕ) : Type 0 where
@@ -158,6 +155,9 @@ module _ (d : ℕ) (s : Stage) where
   pub phase_stop : (a : ℕ) → a < count_of s → (mark_of (phase_stage d s) a).1 ≡ stop_of s (staying d s + a) + d % s.cycle - s.cycle
   phase_stop a h = ap (λ m. m.1) (phase_mark a h)
 
+-- what a phase's answers are found by
+pub ruleset phase_answers = (phase_count, phase_mark, before_within)
+
 module _ (d : ℕ) (s : Stage) (l : Lawful s) where
   pub shift_low : d % s.cycle < s.cycle
   shift_low = mod-lt d l.cycle_low
@@ -172,23 +172,25 @@ module _ (d : ℕ) (s : Stage) (l : Lawful s) where
   -- the first instance that leaves the cycle, and so all after it
   pub leaves : (i : ℕ) → staying d s ≤ i → s.cycle ≤ start_of s i + d % s.cycle
   leaves i h =
-      let first : s.cycle ≤ start_of s (staying d s) + d % s.cycle =
-      ⊎_elim
-      (λ k. omega (arith, mark_start s l (staying d s) k, before_stops (s.cycle - d % s.cycle) s.marks k))
-      (λ k. omega (arith, start_next 0, starts_not_fall s l (0 + count_of s) (staying d s) (omega arith)))
-      (cases_lt (staying d s) (count_of s)) in
-      omega (arith, starts_not_fall s l (staying d s) i h)
+      let w : ℕ = staying d s in
+      let first : s.cycle ≤ start_of s w + d % s.cycle =
+      grind (arith, mark_start s l w, before_stops (s.cycle - d % s.cycle) s.marks, start_next 0, starts_not_fall s l (0 + count_of s) w) in
+      omega (arith, starts_not_fall s l w i h)
 
   -- a count of instances later the marks leave the next cycle too
   pub remains : (i : ℕ) → i < staying d s + count_of s → start_of s i + d % s.cycle < s.cycle + s.cycle
   remains i h =
-      ⊎_elim
-      (λ k. omega (arith, shift_low, mark_start s l i k, l.start_in_cycle i k))
-      (λ k.
       let b : ℕ = i - count_of s in
-      let at : start_of s i ≡ start_of s b + s.cycle = subst (λ j. start_of s j ≡ start_of s b + s.cycle) (omega arith) (start_next b) in
-      omega (arith, staying_within, mark_start s l b (omega (arith, staying_within)), before_early (s.cycle - d % s.cycle) s.marks b (omega arith)))
-      (cases_lt i (count_of s))
+      grind (
+        arith,
+        shift_low,
+        staying_within,
+        start_next b,
+        mark_start s l i,
+        mark_start s l b,
+        l.start_in_cycle i,
+        before_early (s.cycle - d % s.cycle) s.marks b,
+      )
 
   pub phase_lawful : Lawful (phase_stage d s)
   unfolding phase_stage

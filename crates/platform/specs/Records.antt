@@ -7,7 +7,7 @@ use Rattle.std.specs.List.{slice_get}
 use Rattle.stage.specs.Stages.{Stage}
 use Rattle.platform.specs.declared.record.Record.{Record}
 
--- a period is 100 to 1,000,000 microseconds
+-- a period is 100 to 1,000,000 microseconds; written out, so that another constant in the code is refused
 abbrev pub period_in_range : Record → Bool
 period_in_range r = nat_le 100 r.period && nat_le r.period 1_000_000
 

@@ -13,7 +13,7 @@ thin_stage n r s =
       marks = map (λ (i : ℕ). (start_of s (n * i + r), stop_of s (n * i + r))) (range_with_len 0 (count_of s));
     }
 
--- n is 1 to 16, r is below n, and n cycles are not above the longest cycle
+-- n is 1 to 16, r is below n, and n cycles are not above the longest cycle; written out, as a record's limits are
 abbrev pub thinnable : ℕ → ℕ → ℕ → Bool
 thinnable n r cycle = nat_le 1 n && (nat_le n 16 && (nat_lt r n && nat_le (n * cycle) 100_000_000))
 

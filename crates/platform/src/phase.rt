@@ -36,7 +36,7 @@ impl<P: Platform> Platform for Phase<P> {
         self.below.describe(number)
     }
 
-    #[tactic(auto, using(crate::specs::LayerSoundness::phase_count, crate::specs::LayerSoundness::phase_mark, crate::specs::LayerSoundness::before_within))]
+    #[tactic(auto, using(crate::specs::LayerSoundness::phase_answers))]
     fn mark(&self, number: Number, a: u8) -> Option<(u32, u32)> {
         let Some(stage) = StageBelow::find(&self.below, number) else {
             return None;
@@ -45,8 +45,10 @@ impl<P: Platform> Platform for Phase<P> {
             return None;
         }
         let moved = self.shift % stage.cycle;
-        let first = stage.marks_before(stage.cycle - moved);
+        // marks that start from here on leave the cycle, and come first in the next
+        let end = stage.cycle - moved;
+        let first = stage.marks_before(end);
         let (start, stop) = stage.instance(first as u32 + a as u32);
-        Some((start + moved - stage.cycle, stop + moved - stage.cycle))
+        Some((start - end, stop - end))
     }
 }

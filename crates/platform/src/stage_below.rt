@@ -18,7 +18,7 @@ pub struct StageBelow<'a, P: Platform> {
 }
 
 impl<'a, P: Platform> StageBelow<'a, P> {
-    // The stage of a number; nothing where it is absent. The layers leave by `let .. else` then, as the project asks.
+    // The stage of a number; nothing where it is absent. Here and in the layers the project asks for `let .. else`.
     pub fn find(platform: &'a P, number: Number) -> Option<StageBelow<'a, P>>
         ensures { MatchOption result (P.Platform.meaning platform.now number ≡ None) (λ s. P.Platform.meaning s.platform.now s.number ≡ P.Platform.meaning platform.now number) }
     {
@@ -43,7 +43,7 @@ impl<'a, P: Platform> StageBelow<'a, P> {
     }
 
     // When instance `i` starts and stops; the layers ask for the first 16 cycles.
-    #[tactic(auto, using(crate::proofs::Told::whole_high, crate::proofs::Told::stop_low), unfolding(stage::specs::Stages::start_of, stage::specs::Stages::stop_of))]
+    #[tactic(auto, using(crate::proofs::Told::instance_limits), unfolding(stage::specs::Stages::start_of, stage::specs::Stages::stop_of))]
     pub fn instance(&self, i: u32) -> (u32, u32)
         requires { i < MAX_EVERY * self.now.count }
         ensures { Some result ≡ instanced (P.Platform.meaning self.now.platform.now self.now.number) i }
@@ -54,8 +54,9 @@ impl<'a, P: Platform> StageBelow<'a, P> {
         (whole + start, whole + stop)
     }
 
-    // How many marks come before the first that starts at `end` or later, by halving: starts rise.
-    #[tactic(auto, using(crate::specs::LayerSoundness::before_within, crate::specs::LayerSoundness::before_early, crate::proofs::Phasing::before_covers))]
+    // How many marks come before the first that starts at `end` or later, by halving: starts rise. The marks are asked
+    // for one by one, so there is no slice to call `partition_point` on.
+    #[tactic(auto, using(crate::proofs::Phasing::halving))]
     pub fn marks_before(&self, end: u32) -> u8
         ensures { result ≡ marks_before end (P.Platform.meaning self.now.platform.now self.now.number) }
     {

@@ -58,7 +58,7 @@ impl<P: Platform> Platform for Thin<P> {
 
     ghost sound = { λ t n. thinned_sound t.every t.from n (P.Platform.meaning t.below n) (P.Platform.sound t.below n) };
 
-    #[tactic(auto, using(crate::specs::LayerSoundness::thin_count), unfolding(crate::specs::Thins::thinned, crate::specs::Thins::thin_stage))]
+    #[tactic(auto, using(crate::specs::LayerSoundness::thin_answers), unfolding(crate::specs::Thins::thinned, crate::specs::Thins::thin_stage))]
     fn describe(&self, number: Number) -> Option<(u32, u8, u8)> {
         let Some(stage) = self.stage_below(number) else {
             return None;
@@ -66,7 +66,7 @@ impl<P: Platform> Platform for Thin<P> {
         Some((self.every * stage.cycle, stage.count, stage.rank))
     }
 
-    #[tactic(auto, using(crate::specs::LayerSoundness::thin_count, crate::specs::LayerSoundness::thin_mark), unfolding(crate::specs::Thins::thinned))]
+    #[tactic(auto, using(crate::specs::LayerSoundness::thin_answers), unfolding(crate::specs::Thins::thinned))]
     fn mark(&self, number: Number, a: u8) -> Option<(u32, u32)> {
         let Some(stage) = self.stage_below(number) else {
             return None;
