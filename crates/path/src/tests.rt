@@ -1,6 +1,6 @@
 // Worked routes, run.
 use crate::{Delay, MAX_LENGTH, SearchFault, Semantics, largest_delay};
-use stage::{LawfulRow, MAX_MARKS, Row};
+use stage::{LawfulRow, Row};
 use std::array;
 use std::test::Fail;
 
@@ -9,18 +9,9 @@ const UNTOUCHED: u64 = 77;
 
 // A stage with one mark.
 fn one_mark(cycle: u32, start: u32, length: u32, rank: u8) -> Result<LawfulRow, Fail> {
-    let mut starts = [0; MAX_MARKS];
-    let mut stops = [0; MAX_MARKS];
-    starts[0] = start;
-    stops[0] = start.saturating_add(length);
-    LawfulRow::new(Row {
-        cycle,
-        count: 1,
-        rank,
-        starts,
-        stops,
-    })
-    .ok_or_else(|| Fail::new("a row is against the laws"))
+    Row::of_marks(cycle, rank, &[(start, start.saturating_add(length))])
+        .and_then(LawfulRow::new)
+        .ok_or_else(|| Fail::new("a row is against the laws"))
 }
 
 // What the search answers, and the buffer after it.

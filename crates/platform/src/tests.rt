@@ -49,17 +49,9 @@ impl Platform for Single {
 }
 
 // A row of rank 7 with these marks.
-fn row_of(cycle: u32, marks: &[(u32, u32)]) -> Result<Single, Fail>
-    requires { length marks.now ≤ MAX_MARKS }
-{
-    let row = Row {
-        cycle,
-        count: marks.len() as u8,
-        rank: 7,
-        starts: array::from_fn(|a| marks.get(a).map_or(0, |mark| mark.0)),
-        stops: array::from_fn(|a| marks.get(a).map_or(0, |mark| mark.1)),
-    };
-    LawfulRow::new(row)
+fn row_of(cycle: u32, marks: &[(u32, u32)]) -> Result<Single, Fail> {
+    Row::of_marks(cycle, 7, marks)
+        .and_then(LawfulRow::new)
         .map(|row| Single { row })
         .ok_or_else(|| Fail::new("a row is against the laws"))
 }
