@@ -24,8 +24,7 @@ pub struct Table {
 
 // The slot whose task has the number.
 fn slot_of(slots: &[Option<Task>; MAX_TASKS], number: Number) -> Option<usize>
-    ensures inside { IfSome result (λ i. i < 32) }
-    ensures found { MatchOption result (held_under slots.now number ≡ None) (λ i. Found slots.now i number) }
+    ensures { MatchOption result (held_under slots.now number ≡ None) (λ i. Found slots.now i number) }
 {
     slots
         .iter()
@@ -34,8 +33,7 @@ fn slot_of(slots: &[Option<Task>; MAX_TASKS], number: Number) -> Option<usize>
 
 // A slot with no task.
 fn free_slot(slots: &[Option<Task>; MAX_TASKS]) -> Option<usize>
-    ensures inside { IfSome result (λ i. i < 32) }
-    ensures found { MatchOption result (vacant slots.now ≡ 0) (Vacant slots.now) }
+    ensures { MatchOption result (vacant slots.now ≡ 0) (Vacant slots.now) }
 {
     slots.iter().position(|slot| slot.is_none())
 }

@@ -1,6 +1,6 @@
 -- The layers' proofs that they are sound where the platform below is.
 -- Assumes nothing.
-use Rattle.std.specs.Prelude.{◌≡◌, ℕ, zero, suc, ◌+◌, ◌-◌, ◌*◌, ◌%◌, ◌<◌, ◌≤◌, List, [], ◌∷◌, length, Some, None, Option, slice_index_or, refl}
+use Rattle.std.specs.Prelude.{◌≡◌, ℕ, true, zero, suc, ◌+◌, ◌-◌, ◌*◌, ◌%◌, ◌<◌, ◌≤◌, List, [], ◌∷◌, length, Some, None, Option, slice_index_or, refl}
 use Rattle.std.proofs.Common.{ap, mod-lt, div-lt_iff_lt-mul}
 use Rattle.std.proofs.Math.Nat.{mul-le-mul_left, add-mul-div_right, add-mul-mod_self_right}
 use native.Mathlib.Omega.{arith}
@@ -12,7 +12,7 @@ use Rattle.stage.specs.Instances.{InOrder}
 use Rattle.stage.proofs.Order.{in_order, start_at, stop_at}
 use Rattle.platform.specs.Platforms.{Sound}
 use Rattle.platform.specs.Phases.{before, staying, moved, phase_stage, phased}
-use Rattle.platform.specs.Thins.{thin_stage, thinned}
+use Rattle.platform.specs.Thins.{thin_stage, thinnable, thinned}
 
 module _ (n r : ℕ) (s : Stage) where
   pub thin_count : count_of (thin_stage n r s) ≡ count_of s
@@ -115,6 +115,22 @@ thin_lawful n r s l some below fits =
       starts = λ a h. omega (arith, thin_start n r s a h);
       stops = λ a h. omega (arith, thin_stop n r s a h);
       in_cycle = λ a h. rw (thin_start n r s a h) (start_before_cycle s l n (n * a + r) (within a h));
+    }
+
+-- the parts of the test, as orders
+pub record Thinnable (n r cycle : ℕ) : Type 0 where
+  pub some : 1 ≤ n
+  pub few : n ≤ 16
+  pub below : r < n
+  pub fits : n * cycle ≤ 100_000_000
+
+pub thinnable_parts : (n r cycle : ℕ) → thinnable n r cycle ≡ true → Thinnable n r cycle
+thinnable_parts n r cycle h =
+    record {
+      some = grind (arith, nat_tests);
+      few = grind (arith, nat_tests);
+      below = grind (arith, nat_tests);
+      fits = grind (arith, nat_tests);
     }
 
 pub thinned_sound : (n r number : ℕ) (o : Option Stage) → Sound number o → Sound number (thinned n r o)

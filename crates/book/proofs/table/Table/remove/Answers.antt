@@ -6,7 +6,7 @@ returns-in-Some c = λ distinct ranged.
     let slots = c.args.self.now.slots in
     record {
       held = emptied_held slots c.in-Some.slot c.args.number
-          (found_ready slots c.in-Some.slot c.args.number distinct c.in-Some.ensures.found);
+          (found_ready slots c.in-Some.slot c.args.number distinct c.in-Some.ensures);
       distinct = emptied_distinct slots c.in-Some.slot distinct;
       ranged = emptied_ranged slots c.in-Some.slot ranged;
     }
