@@ -110,10 +110,10 @@ pub(crate) fn longest_path(route: Route, semantics: Semantics, span: u32) -> Lon
     let end = block.repeats_at(span);
     let mut best: Option<Longest> = None;
     while block.begin <= end {
-        if let Some(found) = block.longest(semantics) {
-            if best.is_none_or(|best| found.delay > best.delay) {
-                best = Some(found);
-            }
+        if let Some(found) = block.longest(semantics)
+            && best.is_none_or(|best| found.delay > best.delay)
+        {
+            best = Some(found);
         }
         block = block.next();
     }
