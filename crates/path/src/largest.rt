@@ -3,7 +3,7 @@ ghost use Rattle.std.specs.Prelude.{◌≡◌, ◌+◌, ◌^◌, ◌<◌, ◌≤
 ghost use Rattle.stage.specs.declared.period.TheConstants.{MAX_MACRO_PERIOD};
 ghost use Rattle.stage.specs.Stages.{start_of, stop_of};
 ghost use Rattle.path.specs.Figures.{Figure, shown_predecessor};
-ghost use Rattle.path.specs.Periods.{Common};
+ghost use Rattle.path.specs.Periods.{Common, instances_in};
 ghost use Rattle.path.specs.Route.{first_along, last_along, stages_along, steps_along};
 ghost use Rattle.path.specs.Steps.{end_in, first_block, next_block, origin_in, witness_to};
 
@@ -72,6 +72,14 @@ impl<'a> Block<'a> {
         }
     }
 
+    // Where a block begins that is like this one, a span later.
+    fn repeats_at(&self, span: u32) -> u64
+        requires { self.now.begin < 2 ^ 40 }
+        ensures { result ≡ self.now.begin + instances_in span (first_along self.now.route) }
+    {
+        self.begin + self.route.instances_in(span)
+    }
+
     // The longest path that counts, where any does.
     fn longest(&self, semantics: Semantics) -> Option<Longest>
         requires { IfSome (origin_in semantics self.now.begin self.now.before) (λ o. start_of (first_along self.now.route) o ≤ stop_of (last_along self.now.route) (end_in semantics self.now.near self.now.far)) }
@@ -98,14 +106,14 @@ pub(crate) fn longest_path(route: Route, semantics: Semantics, span: u32) -> Lon
     ensures early { start_of (last_along route.entry) result.last < 2 ^ 40 }
 {
     let mut block = Block::first(route);
-    // Everything repeats a span after the first block, so later blocks show nothing new.
-    let end = block.begin + route.instances_in(span);
+    // Everything repeats from there, so later blocks show nothing new.
+    let end = block.repeats_at(span);
     let mut best: Option<Longest> = None;
     while block.begin <= end {
-        if let Some(found) = block.longest(semantics) {
-            if best.is_none_or(|best| found.delay > best.delay) {
-                best = Some(found);
-            }
+        if let Some(found) = block.longest(semantics)
+            && best.is_none_or(|best| found.delay > best.delay)
+        {
+            best = Some(found);
         }
         block = block.next();
     }
