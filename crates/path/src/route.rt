@@ -11,8 +11,8 @@ ghost use Rattle.path.specs.Steps.{witness_to};
 
 use crate::delay::{MAX_LENGTH, SearchFault};
 use crate::hop::Hop;
+use arrayvec::ArrayVec;
 use stage::LawfulRow;
-use std::array;
 
 // Stages one after the other, of which each reads the one before it.
 #[derive(Clone, Copy)]
@@ -56,20 +56,15 @@ impl<'a> Route<'a> {
         u64::from(span / row.cycle) * u64::from(row.count)
     }
 
-    // The cycle of stage `k`, and 0 past the last one.
-    fn cycle(&self, k: usize) -> u32
-        ensures { result ≡ slice_index (cycles_of (stages_along self.now)) k }
-    {
-        self.rows.get(k).map_or(0, |row| row.row().cycle)
-    }
-
     // The macro-period of the stages, where they have one.
     pub(crate) fn macro_period(&self) -> Result<u32, SearchFault>
         ensures { MatchResult result (λ span. IsMacroPeriod (cycles_of (stages_along self.now)) (Some span)) (λ fault. (room : ℕ) → Refused fault (stages_along self.now) room) }
     {
-        // an array and no collection, since no call allocates
-        let cycles: [u32; MAX_LENGTH] = array::from_fn(|k| self.cycle(k));
-        stage::macro_period(&cycles[..self.rows.len()]).ok_or(SearchFault::MacroPeriod)
+        let mut cycles = ArrayVec::<u32, MAX_LENGTH>::new();
+        for row in self.rows {
+            cycles.push(row.row().cycle);
+        }
+        stage::macro_period(cycles.as_slice()).ok_or(SearchFault::MacroPeriod)
     }
 
     // The first instance of the last stage that instance `i` of the first stage leads to.
