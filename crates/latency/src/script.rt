@@ -157,7 +157,8 @@ fn read_line(heap: Global, text: &str) -> Result<Option<Line>, ReadError> {
     Ok(Some(line))
 }
 
-// The bytes as text, a character each, so that no byte makes a script unreadable as a whole.
+// The bytes as text, a character each, so that no byte makes a script unreadable as a whole. A loop, since a push can
+// fail.
 pub fn as_text(heap: Global, bytes: &[u8]) -> Result<String, AllocError> {
     let mut text = String::new(heap);
     for byte in bytes {

@@ -27,6 +27,7 @@ struct StageSheet<'a, P> {
     position: usize,
 }
 
+// A book lends no list of its stages or marks: it is asked by position and number.
 impl<P: Platform> fmt::Display for StageSheet<'_, P> {
     fn fmt<W: fmt::Write>(&self, f: &mut fmt::Formatter<W>) -> fmt::Result {
         let Some((cycle, count, rank)) = self.book.describe(self.position) else {
@@ -68,7 +69,8 @@ impl<P: Platform> fmt::Display for RouteSheet<'_, P> {
     }
 }
 
-// A figure: semantics, milliseconds cut to tenths, witness and predecessor.
+// A figure: semantics, milliseconds cut to tenths, witness and predecessor. The witness is in front of the buffer that
+// the query filled.
 #[derive(Clone, Copy)]
 pub struct FigureSheet {
     pub semantics: Semantics,

@@ -17,7 +17,8 @@ pub struct LawfulRow {
 impl LawfulRow {
     ghost use Rattle.stage.specs.LawfulRow.{stage_in};
 
-    // The row, where it keeps the laws; its instances then come one after the other for ever.
+    // The row, where it keeps the laws; its instances then come one after the other for ever. A checked constructor, since
+    // an error could say no more than that the row breaks them.
     pub fn new(row: Row) -> Option<LawfulRow>
         ensures refused { MatchOption result (Lawful (stage_of row) → ⊥) (λ l. l.row ≡ row) }
         ensures ordered { IfSome result (λ l. InOrder (stage_in l)) }

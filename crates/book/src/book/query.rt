@@ -12,7 +12,8 @@ use path::{Delay, Semantics, largest_delay};
 use platform::Platform;
 
 impl<P: Platform, S> Book<P, S> {
-    // The largest delay along the route under a semantics, by its number. The witness, a path that takes so long,
+    // The largest delay along the route under a semantics, by any number, since the query refuses those that no semantics
+    // has. The witness, a path that takes so long,
     // fills the front of the buffer; the rest keeps its content, and so does all of it where the query is refused.
     pub fn query(&self, semantics: u8, buffer: &mut [u64]) -> Result<Answer, AnalysisFault>
         ensures refused { QueryRefusal (view_of P.Platform self.now) semantics (long buffer.old) (refused_by analysis_fault result) }

@@ -15,7 +15,7 @@ use platform::{Number, Platform};
 use stage::{LawfulRow, MAX_MARKS, Row};
 
 impl<P: Platform, S> Book<P, S> {
-    // The row of the stage that a route number names; nothing where it is neither held nor present.
+    // The row of the stage that a route number names, asked mark by mark, since a platform lends no list; nothing where it is neither held nor present.
     pub(crate) fn entry_row(&self, number: Number) -> Option<LawfulRow>
         ensures { MatchOption result (entry_stage (view_of P.Platform self.now) number ≡ None) (λ l. entry_stage (view_of P.Platform self.now) number ≡ Some (stage_of l.row)) }
     {
