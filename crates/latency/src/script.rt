@@ -23,7 +23,7 @@ pub enum Line {
 
 impl Line {
     // Whether the line is a call on the book; otherwise it is about the platform.
-    fn is_call(&self) -> bool {
+    pub fn is_call(&self) -> bool {
         match self {
             Line::Stage(_) | Line::Phase(_) | Line::Thin { .. } => false,
             Line::Enter(_, _) | Line::Retire(_) | Line::Route(_) | Line::Query(_) => true,
@@ -105,10 +105,10 @@ impl Words<'_> {
     // The number of a semantics, given by its name or as a number.
     fn semantics(&mut self) -> Result<u8, Unread> {
         let word = self.rest.next().ok_or(self.unread())?;
-        match word.parse::<Semantics>() {
-            Ok(semantics) => Ok(semantics.into()),
-            Err(_) => word.parse().map_err(|_| self.unread()),
-        }
+        word.parse::<Semantics>()
+            .map(u8::from)
+            .or_else(|_| word.parse())
+            .map_err(|_| self.unread())
     }
 
     // All words that are left, as route entries.
@@ -124,10 +124,10 @@ impl Words<'_> {
     }
 
     fn end(&mut self) -> Result<(), Unread> {
-        match self.rest.next() {
-            Some(_) => Err(self.unread()),
-            None => Ok(()),
+        if self.rest.next().is_some() {
+            return Err(self.unread());
         }
+        Ok(())
     }
 }
 

@@ -80,7 +80,8 @@ impl<'a> Route<'a> {
         at
     }
 
-    // The first instance of the path that ends at instance `j` of the last stage; there is one.
+    // The first instance of the path that ends at instance `j` of the last stage. That there is one, and early enough, is
+    // about a route and an instance of it: a type of the two would be made at each step and taken apart again.
     pub(crate) fn back(&self, j: u64) -> u64
         requires early { start_of (last_along self.now) j < 2 ^ 40 }
         requires there { 0 < (steps_along self.now).back (j + 1) }

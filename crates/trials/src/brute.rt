@@ -173,6 +173,7 @@ pub fn figure(paths: &[Path], semantics: Semantics) -> Option<Found<'_>> {
     let mut best = None;
     for path in paths {
         if let Some(found) = counted(paths, path, semantics) {
+            // no `map_or`: a closure over a figure that lends its path gets no proof
             best = Some(match best {
                 Some(best) => larger(best, found),
                 None => found,
