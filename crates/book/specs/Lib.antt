@@ -1,3 +1,4 @@
+pub mod Entries
 pub mod Faults
 pub mod Tasks
 pub mod Ledgers

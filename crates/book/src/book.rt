@@ -10,8 +10,8 @@ use platform::Number;
 #[derive(Clone, Copy)]
 pub struct Open;
 
-// A title's tasks and its route over the platform `P`, which has no entries where there is none; `S` says what may be
-// done with the book.
+// A title's tasks and its route over the platform `P`; a route without entries is none. `S` says what may be done with
+// the book.
 #[derive(Drop)]
 pub struct Book<P, S> {
     platform: P,

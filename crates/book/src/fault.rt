@@ -1,4 +1,5 @@
-// What a call is refused by. Each layer has an enum of its own, and an upper layer's holds the lower one's whole.
+// What a call is refused by. Each layer has an enum of its own, and an upper layer's holds the lower one's whole. What
+// `?` turns one into the other with is written out, since a derived `From` would promise nothing.
 ghost use Rattle.std.specs.Prelude.{◌≡◌};
 ghost use Rattle.book.specs.declared.fault.TaskFault.TheVariants.{Record as record_case};
 ghost use Rattle.book.specs.declared.fault.RouteFault.TheVariants.{Task as task_case};

@@ -3,6 +3,7 @@
 
 pub mod answer;
 pub mod book;
+pub mod entry;
 pub mod fault;
 mod table;
 #[cfg(test)]
@@ -10,4 +11,5 @@ mod tests;
 
 pub use answer::Answer;
 pub use book::{Book, Open};
+pub use entry::Entry;
 pub use fault::{AnalysisFault, Fault, RouteFault, TaskFault};

@@ -30,7 +30,7 @@ fn show_unread(rt: &impl Print, at: usize, unread: Unread) -> io::Result<()> {
     println!(rt; "line {at}: {unread}")
 }
 
-// Plays a call; a line about the platform can be none.
+// Plays a call; nothing where the line is about the platform.
 fn call<P: Platform>(
     book: &mut Book<P, Open>,
     line: &Line,
@@ -52,6 +52,7 @@ fn call<P: Platform>(
         Line::Query(number) => {
             let mut witness = [0; MAX_LENGTH];
             let answer = book.query(*number, &mut witness)?;
+            // the query has judged the number
             let semantics = Semantics::try_from(*number)?;
             Ok(Some(Outcome::Answered(FigureSheet {
                 semantics,
@@ -113,8 +114,7 @@ pub fn play<P: Platform>(
     first: usize,
     calls: &[Entry],
 ) -> io::Result<()> {
-    for (i, entry) in calls.iter().enumerate() {
-        let at = first.saturating_add(i);
+    for (at, entry) in (first..).zip(calls) {
         match entry {
             Ok(Some(line)) => play_line(rt, book, at, line)?,
             Ok(None) => {}

@@ -113,12 +113,10 @@ impl Words<'_> {
 
     // All words that are left, as route entries.
     fn entries(&mut self, heap: Global) -> Result<Vec<Number>, ReadError> {
+        let unread = self.unread();
         let mut entries = Vec::new(heap);
         for word in &mut self.rest {
-            let Ok(entry) = word.parse() else {
-                return Err(Unread(self.expected).into());
-            };
-            entries.push(entry)?;
+            entries.push(word.parse().map_err(|_| unread)?)?;
         }
         Ok(entries)
     }

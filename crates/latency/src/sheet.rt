@@ -1,24 +1,11 @@
 // What a book tells, as it is printed.
-use book::{Answer, Book, Open};
+use book::{Answer, Book, Entry, Open};
 use path::{MAX_LENGTH, Semantics};
-use platform::{MAX_NUMBER, Number, Platform};
+use platform::Platform;
 use std::fmt;
 
 // How many marks of a stage are printed.
 const SHOWN_MARKS: u8 = 4;
-
-// What a route entry names.
-#[derive(Clone, Copy)]
-struct Named(Number);
-
-impl fmt::Display for Named {
-    fn fmt<W: fmt::Write>(&self, f: &mut fmt::Formatter<W>) -> fmt::Result {
-        match self.0.checked_sub(MAX_NUMBER + 1) {
-            Some(stage) => write!(f, "stage {stage}"),
-            None => write!(f, "task {}", self.0),
-        }
-    }
-}
 
 // The stage at a position of the route, with its first marks.
 #[derive(Drop)]
@@ -59,7 +46,7 @@ impl<P: Platform> fmt::Display for RouteSheet<'_, P> {
         for position in 0..stages {
             if let Some(entry) = book.entry_at(position) {
                 let stage = StageSheet { book, position };
-                writeln!(f, "  {}: {stage}", Named(entry))?;
+                writeln!(f, "  {}: {stage}", Entry::from(entry))?;
             }
         }
         match book.macro_period() {

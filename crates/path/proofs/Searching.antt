@@ -14,8 +14,8 @@ use Rattle.path.specs.declared.route.Route.{Route}
 use Rattle.path.specs.declared.semantics.Semantics.{Semantics}
 use Rattle.path.specs.declared.semantics.Semantics.TheVariants.{LL, LF, FL, FF}
 use Rattle.path.specs.Given.{stage_in}
-use Rattle.path.specs.Block.{EndsLast}
-use Rattle.path.specs.Route.{stages_along}
+use Rattle.path.specs.Block.{IsLongest}
+use Rattle.path.specs.Route.{OpensBlock, first_along, last_along, stages_along, steps_along}
 use Rattle.path.specs.Timed.{first_stage, last_stage}
 use Rattle.path.specs.Figures.{shown_predecessor, Figure}
 use Rattle.path.specs.Periods.{Common, instances_in}
@@ -108,6 +108,15 @@ module _ (route : Route) where
         near_is = near_is;
         opens = subst (λ x. near < (route_of (stages_along route)).ahead (x + 1)) (sym is) (omega (arith, top_opens h t i, e, top_same h t i));
       }
+
+  -- where steps ahead from instance i lead, a block's paths end first
+  pub opens_block : (i near : ℕ) → near ≡ (steps_along route).ahead i → start_of (last_along route) near < 2 ^ 40
+      → start_of (first_along route) ((steps_along route).back ((steps_along route).ahead i + 1) - 1 + 1) < 2 ^ 36 → OpensBlock route near
+  opens_block i near e in_time early =
+      let there = back_some i near e in
+      let same : (steps_along route).back ((steps_along route).ahead i + 1) - 1 + 1 ≡ (steps_along route).back (near + 1) =
+      omega (arith, there, ap (λ n. (steps_along route).back (n + 1)) e) in
+      record { from = i; leads = e; ends = record { early = in_time; there = there }; early = subst (λ n. start_of (first_along route) n < 2 ^ 36) same early }
 
   -- an instance that starts early has a small number
   pub small : (i : ℕ) → start_of (first_stage (stages_along route)) i < 2 ^ 36 → i < 2 ^ 36
@@ -215,7 +224,7 @@ module _ (m : Semantics) (route : Route) (span end : ℕ) (block : Block) (best 
       ))
 
   -- the longest path of the block, if any counts
-  module _ (found : Longest) (e : EndsLast m block found) where
+  module _ (found : Longest) (e : IsLongest m block found) where
     counts : Counting m (first_block (route_of (stages_along block.route))) block.begin × (from_of m block.begin (unwrap_or block.before 0) ≡ found.origin)
     counts = origin_some m (first_block (route_of (stages_along block.route))) block.begin block.before found.origin v.before e.origin
 

@@ -31,8 +31,8 @@ pub enum SearchFault {
     Buffer,
 }
 
-// The largest delay along the rows. The path that takes it fills the front of `witness`: of those with the largest delay
-// the one whose last instance is smallest. A refusal leaves `witness` as it was.
+// The largest delay along the rows. The path that takes it fills the front of `witness`: of those with the largest
+// delay the one whose last instance is smallest. A refusal leaves `witness` as it was.
 pub fn largest_delay(
     rows: &[LawfulRow],
     semantics: Semantics,

@@ -4,7 +4,7 @@ ghost use Rattle.stage.specs.declared.period.TheConstants.{MAX_MACRO_PERIOD};
 ghost use Rattle.stage.specs.Stages.{start_of, stop_of};
 ghost use Rattle.path.specs.Figures.{Figure, shown_predecessor};
 ghost use Rattle.path.specs.Periods.{Common, instances_in};
-ghost use Rattle.path.specs.Route.{first_along, last_along, stages_along, steps_along};
+ghost use Rattle.path.specs.Route.{EndsPath, OpensBlock, first_along, last_along, stages_along, steps_along};
 ghost use Rattle.path.specs.Steps.{end_in, first_block, next_block, origin_in, witness_to};
 
 use crate::route::Route;
@@ -36,22 +36,31 @@ struct Block<'a> {
 impl<'a> Block<'a> {
     ghost use Rattle.path.specs.Block.{LongestOf};
 
+    // The block whose paths end first at `near`.
+    fn opening(route: Route<'a>, near: u64, before: Option<u64>) -> Block<'a>
+        requires { OpensBlock route near }
+        ensures route { result.route ≡ route.entry }
+        ensures begin { result.begin + 1 ≡ (steps_along route.entry).back (near + 1) }
+        ensures before { result.before ≡ before }
+    {
+        let begin = route.back(near);
+        let far = route.ahead(begin + 1);
+        Block {
+            route,
+            begin,
+            before,
+            near,
+            far,
+        }
+    }
+
     fn first(route: Route<'a>) -> Block<'a>
         requires { start_of (first_along route) (first_block (steps_along route) + 1) < 2 ^ 36 }
         ensures route { result.route ≡ route.entry }
         ensures begin { result.begin ≡ first_block (steps_along route.entry) }
         ensures before { result.before ≡ None }
     {
-        let near = route.ahead(0);
-        let begin = route.back(near);
-        let far = route.ahead(begin + 1);
-        Block {
-            route,
-            begin,
-            before: None,
-            near,
-            far,
-        }
+        Block::opening(route, route.ahead(0), None)
     }
 
     fn next(&self) -> Block<'a>
@@ -60,16 +69,7 @@ impl<'a> Block<'a> {
         ensures begin { result.begin ≡ next_block (steps_along self.now.route) self.now.begin }
         ensures before { result.before ≡ Some self.now.begin }
     {
-        let near = self.far;
-        let begin = self.route.back(near);
-        let far = self.route.ahead(begin + 1);
-        Block {
-            route: self.route,
-            begin,
-            before: Some(self.begin),
-            near,
-            far,
-        }
+        Block::opening(self.route, self.far, Some(self.begin))
     }
 
     // Where a block begins that is like this one, a span later.
@@ -102,8 +102,7 @@ pub(crate) fn longest_path(route: Route, semantics: Semantics, span: u32) -> Lon
     requires common { Common span (stages_along route) }
     requires short { span ≤ MAX_MACRO_PERIOD }
     ensures figure { Figure semantics (stages_along route.entry) result.delay (shown_predecessor semantics result.origin) (witness_to (stages_along route.entry) result.last) }
-    ensures there { 0 < (steps_along route.entry).back (result.last + 1) }
-    ensures early { start_of (last_along route.entry) result.last < 2 ^ 40 }
+    ensures end { EndsPath route.entry result.last }
 {
     let mut block = Block::first(route);
     // Everything repeats from there, so later blocks show nothing new.

@@ -23,7 +23,7 @@ pub(crate) struct Route<'a> {
 }
 
 impl<'a> Route<'a> {
-    ghost use Rattle.path.specs.Route.{first_along, last_along, stages_along, steps_along};
+    ghost use Rattle.path.specs.Route.{EndsPath, first_along, last_along, stages_along, steps_along};
 
     // The route along the rows, where there are 1 to `MAX_LENGTH` of them.
     pub(crate) fn new(rows: &'a [LawfulRow]) -> Result<Route<'a>, SearchFault>
@@ -80,11 +80,9 @@ impl<'a> Route<'a> {
         at
     }
 
-    // The first instance of the path that ends at instance `j` of the last stage. That there is one, and early enough, is
-    // about a route and an instance of it: a type of the two would be made at each step and taken apart again.
+    // The first instance of the path that ends at instance `j` of the last stage; there is one.
     pub(crate) fn back(&self, j: u64) -> u64
-        requires early { start_of (last_along self.now) j < 2 ^ 40 }
-        requires there { 0 < (steps_along self.now).back (j + 1) }
+        requires { EndsPath self.now j }
         ensures { result + 1 ≡ (steps_along self.now).back (j + 1) }
     {
         let mut at = j;
@@ -97,8 +95,7 @@ impl<'a> Route<'a> {
     // Writes the path that ends at instance `j` of the last stage into the front of `path`; there is one.
     pub(crate) fn write_path(&self, j: u64, path: &mut [u64])
         requires room { length (stages_along self.now) ≤ length path.old }
-        requires early { start_of (last_along self.now) j < 2 ^ 40 }
-        requires there { 0 < (steps_along self.now).back (j + 1) }
+        requires end { EndsPath self.now j }
         ensures written { take (length (stages_along self.now)) path.new ≡ witness_to (stages_along self.now) j }
         ensures rest { drop (length (stages_along self.now)) path.new ≡ drop (length (stages_along self.now)) path.old }
     {

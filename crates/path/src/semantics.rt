@@ -20,7 +20,7 @@ pub enum Semantics {
 
 // A number or a name that no semantics has.
 #[derive(Clone, Copy, PartialEq, Eq, Hash, Debug, Error)]
-#[error("a semantics is LL, LF, FL or FF, by number 0 to 3")]
+#[error("a semantics is LL, LF, FL or FF, or by number 0 to 3")]
 pub struct UnknownSemantics;
 
 impl TryFrom<u8> for Semantics {
@@ -81,7 +81,7 @@ impl fmt::Display for Semantics {
     }
 }
 
-// Each match says what one letter means for all four: shorter forms would name the letters once more.
+// Each match says what one letter means for all four; to split the four into their letters first would be no shorter.
 impl Semantics {
     // The instance from which delays are counted in the block that begins at `begin`, after the one at `before`. There
     // is none where its paths do not count: a first block has no predecessor.

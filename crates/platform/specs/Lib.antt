@@ -8,3 +8,4 @@ pub mod LayerSoundness
 pub mod Layers
 pub mod LayerSamples
 pub mod Singles
+pub mod StageBelow

@@ -9,8 +9,8 @@ pub type Number = u8;
 // The highest number of a stage, and of a title's task.
 pub const MAX_NUMBER: Number = 127;
 
-// Two questions over stage numbers 0 to 127. A question changes nothing. The answers are plain tuples, as the project
-// asks of whatever a platform tells.
+// Two questions over stage numbers 0 to 127. A question changes nothing. The answers are plain tuples, which any writer
+// of a platform can make and every layer takes apart.
 pub trait Platform {
     // for each number absent, or one stage
     ghost meaning: { Self → ℕ → Option Stage };

@@ -18,9 +18,12 @@ pub struct StageBelow<'a, P: Platform> {
 }
 
 impl<'a, P: Platform> StageBelow<'a, P> {
-    // The stage of a number; nothing where it is absent. Here and in the layers the project asks for `let .. else`.
+    ghost use Rattle.platform.specs.StageBelow.{stage_below};
+
+    // The stage of a number; nothing where it is absent. Here and in the layers absence is left by `let .. else`: what is
+    // absent below is absent above.
     pub fn find(platform: &'a P, number: Number) -> Option<StageBelow<'a, P>>
-        ensures { MatchOption result (P.Platform.meaning platform.now number ≡ None) (λ s. P.Platform.meaning s.platform.now s.number ≡ P.Platform.meaning platform.now number) }
+        ensures { MatchOption result (P.Platform.meaning platform.now number ≡ None) (λ s. stage_below P.Platform s ≡ P.Platform.meaning platform.now number) }
     {
         let Some((cycle, count, rank)) = platform.describe(number) else {
             return None;
@@ -37,7 +40,7 @@ impl<'a, P: Platform> StageBelow<'a, P> {
     // Start and stop of mark `a`.
     fn mark(&self, a: u8) -> (u32, u32)
         requires { a < self.now.count }
-        ensures { Some result ≡ marked (P.Platform.meaning self.now.platform.now self.now.number) a }
+        ensures { Some result ≡ marked (stage_below P.Platform self.now) a }
     {
         self.platform.mark(self.number, a).unwrap()
     }
@@ -46,7 +49,7 @@ impl<'a, P: Platform> StageBelow<'a, P> {
     #[tactic(auto, using(crate::proofs::Told::instance_limits), unfolding(stage::specs::Stages::start_of, stage::specs::Stages::stop_of))]
     pub fn instance(&self, i: u32) -> (u32, u32)
         requires { i < MAX_EVERY * self.now.count }
-        ensures { Some result ≡ instanced (P.Platform.meaning self.now.platform.now self.now.number) i }
+        ensures { Some result ≡ instanced (stage_below P.Platform self.now) i }
     {
         let count = self.count as u32;
         let whole = i / count * self.cycle;
@@ -58,7 +61,7 @@ impl<'a, P: Platform> StageBelow<'a, P> {
     // for one by one, so there is no slice to call `partition_point` on.
     #[tactic(auto, using(crate::proofs::Phasing::halving))]
     pub fn marks_before(&self, end: u32) -> u8
-        ensures { result ≡ marks_before end (P.Platform.meaning self.now.platform.now self.now.number) }
+        ensures { result ≡ marks_before end (stage_below P.Platform self.now) }
     {
         let mut low = 0;
         let mut high = self.count;

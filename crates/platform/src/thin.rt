@@ -1,5 +1,6 @@
 // A layer that keeps one of every few instances.
 ghost use Rattle.std.specs.Prelude.{◌≡◌, ◌≤◌, true, None, MatchOption};
+ghost use Rattle.platform.specs.StageBelow.{stage_below};
 ghost use Rattle.platform.specs.Thins.{EveryThinning, thinnable, thinned};
 ghost use Rattle.platform.specs.LayerSoundness.{thinned_sound};
 
@@ -44,7 +45,7 @@ impl<P: Platform> Thin<P> {
     // The stage below, where it is there and can be thinned.
     #[tactic(auto, unfolding(crate::specs::Thins::thinned))]
     fn stage_below(&self, number: Number) -> Option<StageBelow<'_, P>>
-        ensures { MatchOption result (thinned self.now.every self.now.from (P.Platform.meaning self.now.below number) ≡ None) (λ s. (P.Platform.meaning s.platform.now s.number ≡ P.Platform.meaning self.now.below number) × (thinnable self.now.every self.now.from s.cycle ≡ true)) }
+        ensures { MatchOption result (thinned self.now.every self.now.from (P.Platform.meaning self.now.below number) ≡ None) (λ s. (stage_below P.Platform s ≡ P.Platform.meaning self.now.below number) × (thinnable self.now.every self.now.from s.cycle ≡ true)) }
     {
         let Some(stage) = StageBelow::find(&self.below, number) else {
             return None;

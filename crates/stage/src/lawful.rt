@@ -17,8 +17,8 @@ pub struct LawfulRow {
 impl LawfulRow {
     ghost use Rattle.stage.specs.LawfulRow.{stage_in};
 
-    // The row, where it keeps the laws; its instances then come one after the other for ever. A checked constructor, since
-    // an error could say no more than that the row breaks them.
+    // The row, where it keeps the laws; its instances then come one after the other for ever. This answers an `Option`,
+    // since an error could say no more than that the row breaks them; it tests first, since a literal has to be lawful.
     pub fn new(row: Row) -> Option<LawfulRow>
         ensures refused { MatchOption result (Lawful (stage_of row) → ⊥) (λ l. l.row ≡ row) }
         ensures ordered { IfSome result (λ l. InOrder (stage_in l)) }
@@ -87,7 +87,7 @@ impl LawfulRow {
     }
 }
 
-// The plainest row, with which rooms for rows can be filled: a stage that always runs.
+// The plainest row, which stands in the unused places of a vector of rows: a stage that always runs.
 impl Default for LawfulRow {
     ghost use Rattle.stage.specs.Rows.{row_of};
 

@@ -106,11 +106,10 @@ pub fn paths_of(heap: Global, rows: &[LawfulRow]) -> Result<Vec<Path>, AllocErro
     let (Some(writer), Some(reader)) = (stages.first(), stages.last()) else {
         return Ok(paths);
     };
-    for (j, end) in reader.instances.iter().enumerate() {
+    for (last, end) in (0..).zip(&reader.instances) {
         if end.start >= HORIZON {
             break;
         }
-        let last = j as u64;
         let Some(numbers) = path_to(heap, stages.as_slice(), last)? else {
             continue;
         };

@@ -32,10 +32,9 @@ impl Random {
         let end = cycle.saturating_add(first);
         let mut marks: Vec<(u32, u32)> = Vec::new(heap);
         for a in 0..4 {
-            let start = match marks.last() {
-                None => first,
-                Some((_, free)) => free.saturating_add(self.draw() % 3),
-            };
+            let start = marks
+                .last()
+                .map_or(first, |(_, free)| free.saturating_add(self.draw() % 3));
             if start >= cycle || self.draw() % 4 < a {
                 break;
             }

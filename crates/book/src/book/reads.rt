@@ -8,23 +8,21 @@ ghost use Rattle.book.specs.Faults.{refused_by, route_fault};
 ghost use Rattle.book.specs.Ledgers.{RoutePeriod, absent_at, entry_stage, first_absent, stage_at};
 
 use crate::book::Book;
+use crate::entry::Entry;
 use crate::fault::RouteFault;
 use arrayvec::ArrayVec;
 use path::MAX_LENGTH;
-use platform::{LawfulRecord, MAX_NUMBER, Number, Platform};
-
-// Route numbers from here on name platform stages, counted from 0.
-const FIRST_PLATFORM_ENTRY: Number = MAX_NUMBER + 1;
+use platform::{LawfulRecord, Number, Platform};
 
 impl<P: Platform, S> Book<P, S> {
     // Cycle, count and rank of a route entry's stage; nothing where it is neither held nor present.
     pub(crate) fn describe_entry(&self, entry: Number) -> Option<(u32, u8, u8)>
         ensures { result ≡ described (entry_stage (view_of P.Platform self.now) entry) }
     {
-        if entry >= FIRST_PLATFORM_ENTRY {
-            return self.platform.describe(entry - FIRST_PLATFORM_ENTRY);
+        match entry.into() {
+            Entry::Task(task) => self.table.get(task).map(LawfulRecord::describe),
+            Entry::Stage(stage) => self.platform.describe(stage),
         }
-        self.table.get(entry).map(LawfulRecord::describe)
     }
 
     // Looks at the entries one by one.
@@ -42,10 +40,10 @@ impl<P: Platform, S> Book<P, S> {
     pub(crate) fn mark_of_entry(&self, entry: Number, a: u8) -> Option<(u32, u32)>
         ensures { result ≡ marked (entry_stage (view_of P.Platform self.now) entry) a }
     {
-        if entry >= FIRST_PLATFORM_ENTRY {
-            return self.platform.mark(entry - FIRST_PLATFORM_ENTRY, a);
+        match entry.into() {
+            Entry::Task(task) => self.table.get(task)?.mark(a),
+            Entry::Stage(stage) => self.platform.mark(stage, a),
         }
-        self.table.get(entry)?.mark(a)
     }
 
     // How many entries the route has; 0 where there is no route.

@@ -15,14 +15,15 @@ use platform::{Number, Platform};
 use stage::{LawfulRow, MAX_MARKS, Row};
 
 impl<P: Platform, S> Book<P, S> {
-    // The row of the stage that a route number names, asked mark by mark, since a platform lends no list; nothing where it is neither held nor present.
-    pub(crate) fn entry_row(&self, number: Number) -> Option<LawfulRow>
-        ensures { MatchOption result (entry_stage (view_of P.Platform self.now) number ≡ None) (λ l. entry_stage (view_of P.Platform self.now) number ≡ Some (stage_of l.row)) }
+    // The row of the stage that a route number names; nothing where it is neither held nor present. It is asked mark by
+    // mark, since a platform lends no list.
+    pub(crate) fn entry_row(&self, entry: Number) -> Option<LawfulRow>
+        ensures { MatchOption result (entry_stage (view_of P.Platform self.now) entry ≡ None) (λ l. entry_stage (view_of P.Platform self.now) entry ≡ Some (stage_of l.row)) }
     {
-        let (cycle, count, rank) = self.describe_entry(number)?;
+        let (cycle, count, rank) = self.describe_entry(entry)?;
         let mut marks = ArrayVec::<(u32, u32), MAX_MARKS>::new();
         for a in 0..count {
-            marks.push(self.mark_of_entry(number, a)?);
+            marks.push(self.mark_of_entry(entry, a)?);
         }
         LawfulRow::new(Row::of_marks(cycle, rank, marks.as_slice())?)
     }

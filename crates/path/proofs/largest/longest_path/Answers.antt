@@ -56,4 +56,4 @@ unwrap-requires c = found_some _ _ _ _ _ _ c.loop-block.invariant c.loop-block-t
 pub returns : goal.returns
 returns c =
     let end = reached_end _ _ _ _ _ _ c.loop-block.invariant c.loop-block-test.false _ c.unwrap.ensures in
-    record { figure = end.figure; there = end.there; early = end.early }
+    record { figure = end.figure; end = record { early = end.early; there = end.there } }

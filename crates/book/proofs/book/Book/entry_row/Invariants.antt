@@ -8,4 +8,4 @@ use Rattle.book.proofs.book.Book.entry_row.Given as goal
 abbrev pub invariant-loop-a : goal.invariant-loop-a
 invariant-loop-a g l =
     (length l.marks.items ≡ l.a)
-    × ((b : ℕ) → b < l.a → Some (get_or l.marks.items b (0, 0)) ≡ marked (entry_stage (view_of g.P.Platform l.self) l.number) b)
+    × ((b : ℕ) → b < l.a → Some (get_or l.marks.items b (0, 0)) ≡ marked (entry_stage (view_of g.P.Platform l.self) l.entry) b)

@@ -1,4 +1,4 @@
-use Rattle.book.proofs.Slots.{found_ready, emptied_held, emptied_distinct, emptied_ranged, absent_held}
+use Rattle.book.proofs.Slots.{found_ready, emptied_held, emptied_distinct, emptied_ranged}
 use Rattle.book.proofs.table.Table.remove.Goals as goal
 
 pub returns-in-Some : goal.returns-in-Some

@@ -1,22 +1,8 @@
-use Rattle.std.proofs.Common.{◌+◌, ◌^◌, ◌<◌, arith, rules}
-use Rattle.path.proofs.Searching.{back_some, begun, small}
+use Rattle.std.proofs.Common.{◌+◌}
+use Rattle.path.proofs.Searching.{opens_block}
 use Rattle.path.proofs.largest.Block.next.Goals as goal
 
-pub back-begin-requires-clause-there : goal.back-begin-requires-clause-there
-back-begin-requires-clause-there c = back_some c.args.self.now.route (c.args.self.now.begin + 1) _ c.args.self.now.far_is
-
-pub overflow_add-begin : goal.overflow_add-begin
-overflow_add-begin c =
-    let is = (begun c.args.self.now.route (c.args.self.now.begin + 1) _ _ c.args.self.now.far_is c.back-begin.ensures).is_top in
-    let low : c.back-begin.result + 1 < 2 ^ 36 = omega (arith, is, small c.args.self.now.route _ c.requires) in
-    search rules
-
-pub invariant_of-result : goal.invariant_of-result
-invariant_of-result c =
-    let begun = begun c.args.self.now.route (c.args.self.now.begin + 1) _ _ c.args.self.now.far_is c.back-begin.ensures in
-    record {
-      near_is = begun.near_is;
-      far_is = c.ahead-far.ensures.ahead;
-      opens = omega (arith, begun.opens, c.ahead-far.ensures.ahead);
-      early = c.ahead-far.ensures.early;
-    }
+pub opening-requires : goal.opening-requires
+opening-requires c =
+    let block = c.args.self.now in
+    opens_block block.route (block.begin + 1) _ block.far_is block.early c.requires

@@ -9,8 +9,8 @@ pub back-at-requires : goal.back-at-requires
 back-at-requires c =
     let turn = c.in-Some.ensures.steps.1.0.1 in
     record {
-      early = traced_early _ _ _ _ c.loop-k.invariant.0.0.1 turn.0 turn.1 _ _ c.requires.there c.loop-k.invariant.3 c.index-next-0.result _;
-      there = traced_there _ _ _ _ c.loop-k.invariant.0.0.1 turn.0 turn.1 _ _ c.requires.there c.loop-k.invariant.3 _ _;
+      early = traced_early _ _ _ _ c.loop-k.invariant.0.0.1 turn.0 turn.1 _ _ c.requires.end.there c.loop-k.invariant.3 c.index-next-0.result _;
+      there = traced_there _ _ _ _ c.loop-k.invariant.0.0.1 turn.0 turn.1 _ _ c.requires.end.there c.loop-k.invariant.3 _ _;
     }
 
 pub loop-k-preserved : goal.loop-k-preserved
@@ -24,10 +24,10 @@ loop-k-preserved c =
       ((omega (arith, size), size), tt, omega (arith, count, c.loop-k.invariant.2, c.loop-k.invariant.0.2)),
       tt,
       count ∙ c.loop-k.invariant.2,
-      traced_more _ _ _ _ c.loop-k.invariant.0.0.1 turn.0 turn.1 _ _ c.requires.there c.loop-k.invariant.3 _ _ _ _ turn.2 c.back-at.ensures,
+      traced_more _ _ _ _ c.loop-k.invariant.0.0.1 turn.0 turn.1 _ _ c.requires.end.there c.loop-k.invariant.3 _ _ _ _ turn.2 c.back-at.ensures,
       writing_more rows c.args.j c.args.path.now (omega (arith, c.requires.room, stages_length rows)) _ _ _ _ _ _ (c.loop-k.auto.path ∙ length-set _ _ _) (omega (arith, turn.0, c.loop-k.invariant.0.0.1))
           shorter (omega (arith, index, c.loop-k.invariant.2, size))
-          (traced_witness _ _ _ _ c.loop-k.invariant.0.0.1 turn.0 turn.1 _ _ c.requires.there c.loop-k.invariant.3 _ _ _ _ turn.2 c.back-at.ensures)
+          (traced_witness _ _ _ _ c.loop-k.invariant.0.0.1 turn.0 turn.1 _ _ c.requires.end.there c.loop-k.invariant.3 _ _ _ _ turn.2 c.back-at.ensures)
           c.loop-k.invariant.4,
     )
 

@@ -1,5 +1,5 @@
 use Rattle.std.proofs.Common.{is_ok, rules}
-use Rattle.book.proofs.Kept.{kept, put_keeps, number_low, record_checked, record_refused}
+use Rattle.book.proofs.Kept.{kept, put_keeps, number_low, record_checked}
 use Rattle.book.proofs.book.edits.Book+P+Open.enter.Goals as goal
 
 pub invariant_of-self : goal.invariant_of-self
