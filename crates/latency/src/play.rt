@@ -94,6 +94,7 @@ pub fn show_platform(rt: &impl Print, platform: &[Entry]) -> io::Result<()> {
                 stages = stages.saturating_add(1);
             }
             Ok(Some(Line::Phase(shift))) => println!(rt; "phase {shift}")?,
+            // a thin's limits, here only for what is printed
             Ok(Some(Line::Thin { every, from }))
                 if *every < 1 || *every > MAX_EVERY || *from >= *every => {
                 println!(rt; "thin {every} {from}: no stages")?

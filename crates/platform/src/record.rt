@@ -37,7 +37,7 @@ impl Record {
         (1..=self.period).contains(&self.response)
     }
 
-    // Whether the record is within all limits.
+    // Whether the record is within all limits; the check that makes a `LawfulRecord` says besides which one it breaks.
     pub fn is_in_range(self) -> bool
         ensures { result ≡ in_range self }
     {
