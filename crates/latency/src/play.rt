@@ -1,5 +1,5 @@
 // Plays a script's lines on a book, and prints what each did.
-use crate::script::{Entry, Line, Unread};
+use crate::script::{Line, Reading, Unread};
 use crate::sheet::{FigureSheet, RouteSheet};
 use book::{AnalysisFault, Book, Fault, Open};
 use path::{MAX_LENGTH, Semantics};
@@ -84,11 +84,11 @@ fn play_line<P: Platform>(
 }
 
 // Prints the platform's stages and layers, as its lines give them.
-pub fn show_platform(rt: &impl Print, platform: &[Entry]) -> io::Result<()> {
+pub fn show_platform(rt: &impl Print, platform: &[Reading]) -> io::Result<()> {
     // counts the stages, which stand among other lines
     let mut stages: usize = 0;
-    for (i, entry) in platform.iter().enumerate() {
-        match entry {
+    for (i, reading) in platform.iter().enumerate() {
+        match reading {
             Ok(Some(Line::Stage(record))) => {
                 show_record(rt, stages, *record)?;
                 stages = stages.saturating_add(1);
@@ -113,10 +113,10 @@ pub fn play<P: Platform>(
     rt: &impl Print,
     book: &mut Book<P, Open>,
     first: usize,
-    calls: &[Entry],
+    calls: &[Reading],
 ) -> io::Result<()> {
-    for (at, entry) in (first..).zip(calls) {
-        match entry {
+    for (at, reading) in (first..).zip(calls) {
+        match reading {
             Ok(Some(line)) => play_line(rt, book, at, line)?,
             Ok(None) => {}
             Err(unread) => show_unread(rt, at, *unread)?,

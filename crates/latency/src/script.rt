@@ -37,7 +37,7 @@ impl Line {
 pub struct Unread(pub &'static str);
 
 // What stands in a line of the script: nothing where it is empty or only a comment.
-pub type Entry = Result<Option<Line>, Unread>;
+pub type Reading = Result<Option<Line>, Unread>;
 
 // Why a line is not taken in.
 #[derive(Drop)]
@@ -166,31 +166,31 @@ pub fn as_text(heap: Global, bytes: &[u8]) -> Result<String, AllocError> {
 }
 
 // The lines of a script, in order.
-pub fn read(heap: Global, text: &str) -> Result<Vec<Entry>, AllocError> {
-    let mut entries = Vec::new(heap);
+pub fn read(heap: Global, text: &str) -> Result<Vec<Reading>, AllocError> {
+    let mut readings = Vec::new(heap);
     for line in text.lines() {
-        entries.push(match read_line(heap, line) {
+        readings.push(match read_line(heap, line) {
             Ok(line) => Ok(line),
             Err(ReadError::Unread(unread)) => Err(unread),
             Err(ReadError::Memory(error)) => return Err(error),
         })?;
     }
-    Ok(entries)
+    Ok(readings)
 }
 
 // The lines before the first call, which are about the platform, and the others.
-pub fn parts(script: &[Entry]) -> (&[Entry], &[Entry]) {
-    let calls = script
-        .iter()
-        .position(|entry| matches!(entry, Ok(Some(line)) if line.is_call()));
+pub fn parts(script: &[Reading]) -> (&[Reading], &[Reading]) {
+    let calls = script.iter().position(
+        |reading| matches!(reading, Ok(Some(line)) if line.is_call()),
+    );
     script.split_at(calls.unwrap_or(script.len()))
 }
 
 // The records of the platform's stages.
-pub fn records_of(heap: Global, platform: &[Entry]) -> Result<Vec<Record>, AllocError> {
+pub fn records_of(heap: Global, platform: &[Reading]) -> Result<Vec<Record>, AllocError> {
     let mut records = Vec::new(heap);
-    for entry in platform {
-        if let Ok(Some(Line::Stage(record))) = entry {
+    for reading in platform {
+        if let Ok(Some(Line::Stage(record))) = reading {
             records.push(*record)?;
         }
     }
@@ -216,10 +216,10 @@ impl Default for Layers {
     }
 }
 
-pub fn layers_of(platform: &[Entry]) -> Layers {
+pub fn layers_of(platform: &[Reading]) -> Layers {
     platform
         .iter()
-        .fold(Layers::default(), |layers, entry| match entry {
+        .fold(Layers::default(), |layers, reading| match reading {
             Ok(Some(Line::Phase(shift))) => Layers {
                 shift: *shift,
                 ..layers

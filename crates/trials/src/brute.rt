@@ -3,6 +3,7 @@
 use path::{Delay, Semantics};
 use stage::LawfulRow;
 use std::alloc::{AllocError, Global};
+use std::cmp::Reverse;
 
 // Several times as long as any route takes to repeat.
 const HORIZON: u64 = 960;
@@ -159,8 +160,8 @@ fn counted<'a>(paths: &'a [Path], path: &'a Path, semantics: Semantics) -> Optio
 
 // The one with the larger delay, and of equal ones the one that ends first.
 fn larger<'a>(best: Found<'a>, found: Found<'a>) -> Found<'a> {
-    let longer = found.delay.delay > best.delay.delay;
-    if longer || found.delay.delay == best.delay.delay && found.path.last < best.path.last {
+    let key = |found: &Found<'_>| (found.delay.delay, Reverse(found.path.last));
+    if key(&found) > key(&best) {
         found
     } else {
         best
