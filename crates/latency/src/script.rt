@@ -169,6 +169,7 @@ pub fn as_text(heap: Global, bytes: &[u8]) -> Result<String, AllocError> {
 pub fn read(heap: Global, text: &str) -> Result<Vec<Reading>, AllocError> {
     let mut readings = Vec::new(heap);
     for line in text.lines() {
+        // an unread line stays among the others; only a lack of memory ends the reading
         readings.push(match read_line(heap, line) {
             Ok(line) => Ok(line),
             Err(ReadError::Unread(unread)) => Err(unread),
