@@ -118,7 +118,7 @@ RoutedOrNot (entry ∷ entries) without with = with
 abbrev pub RoutePeriod : View → Option ℕ → Type 0
 RoutePeriod v answer = RoutedOrNot v.ledger.route (answer ≡ None) (IsMacroPeriod (cycles_along v) answer)
 
--- the stages along the route: a title number's by its record, another's by the platform
+-- the stages along the route, in its order
 abbrev pub present_stages : List (Option Stage) → List Stage
 present_stages [] = []
 present_stages (None ∷ stages) = present_stages stages

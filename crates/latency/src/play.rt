@@ -18,7 +18,7 @@ enum Outcome {
 // A platform's stage, by its record.
 fn show_record(rt: &impl Print, stage: usize, record: Record) -> io::Result<()> {
     if stage > MAX_NUMBER as usize {
-        return println!(rt; "stage {stage}: absent, stages end at 127");
+        return println!(rt; "stage {stage}: absent, stages end at {MAX_NUMBER}");
     }
     if !record.is_in_range() {
         return println!(rt; "stage {stage}: absent, its record is outside the limits");

@@ -2,6 +2,7 @@
 use book::{Answer, Book, Entry, Open};
 use path::{MAX_LENGTH, Semantics};
 use platform::Platform;
+use stage::MAX_MACRO_PERIOD;
 use std::fmt;
 
 // How many marks of a stage are printed.
@@ -46,18 +47,24 @@ impl<P: Platform> fmt::Display for RouteSheet<'_, P> {
         for position in 0..stages {
             if let Some(entry) = book.entry_at(position) {
                 let stage = StageSheet { book, position };
-                writeln!(f, "  {}: {stage}", Entry::from(entry))?;
+                match Entry::from(entry) {
+                    task @ Entry::Task(_) => writeln!(f, "  {task}: {stage}")?,
+                    below @ Entry::Stage(_) => writeln!(
+                        f,
+                        "  {below} as the layers make it: {stage}"
+                    )?,
+                }
             }
         }
         match book.macro_period() {
             Some(period) => write!(f, "stages {stages} macro {period}"),
-            None => write!(f, "stages {stages} macro above 100000000"),
+            None => write!(f, "stages {stages} macro above {MAX_MACRO_PERIOD}"),
         }
     }
 }
 
-// A figure: semantics, milliseconds cut to tenths, witness and predecessor. The witness is in front of the buffer that
-// the query filled.
+// A figure: semantics, milliseconds cut to tenths, witness, predecessor and the exact microseconds. The witness is in
+// front of the buffer that the query filled.
 #[derive(Clone, Copy)]
 pub struct FigureSheet {
     pub semantics: Semantics,
@@ -85,6 +92,6 @@ impl fmt::Display for FigureSheet {
         if let Some(predecessor) = predecessor {
             write!(f, " after {predecessor}")?;
         }
-        Ok(())
+        write!(f, " ({delay} us)")
     }
 }

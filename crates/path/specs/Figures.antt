@@ -6,7 +6,7 @@ use Rattle.path.specs.Timed.{Timed, first_of, last_of, first_stage, end_of, Pred
 use Rattle.path.specs.declared.semantics.Semantics.{Semantics}
 use Rattle.path.specs.declared.semantics.Semantics.TheVariants.{LL, LF, FL, FF}
 
--- p is the first path from its first instance: none with the same first instance has a smaller last instance.
+-- p is the first path from its first instance: no other from there ends sooner.
 abbrev pub Soonest : List Stage → List ℕ → Type 0
 Soonest ss p = (q : List ℕ) → Timed ss q → first_of q ≡ first_of p → last_of p ≤ last_of q
 

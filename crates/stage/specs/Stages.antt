@@ -29,13 +29,13 @@ pub record Lawful (s : Stage) : Type 0 where
   pub count_low : 1 ≤ count_of s
   pub count_high : count_of s ≤ 48
   pub rank_high : s.rank ≤ 255
-  -- a start is below the cycle
+  -- each mark starts within the cycle
   pub start_in_cycle : (a : ℕ) → a < count_of s → (mark_of s a).0 < s.cycle
-  -- a stop is above its own start
+  -- and takes some time
   pub stop_after_start : (a : ℕ) → a < count_of s → (mark_of s a).0 < (mark_of s a).1
-  -- a start is not below the stop of the mark before it
+  -- marks do not overlap
   pub start_after_stop : (a : ℕ) → a + 1 < count_of s → (mark_of s a).1 ≤ (mark_of s (a + 1)).0
-  -- the last stop is not above the cycle plus the first start
+  -- the last one ends before the first comes again
   pub last_stop_in_time : (mark_of s (count_of s - 1)).1 ≤ s.cycle + (mark_of s 0).0
   deriving IsProp as lawful_prop
 

@@ -128,7 +128,7 @@ pub fn paths_of(heap: Global, rows: &[LawfulRow]) -> Result<Vec<Path>, AllocErro
     Ok(paths)
 }
 
-// Whether no path with the same first instance has a smaller last instance.
+// Whether no other path from the same first instance ends sooner.
 fn is_soonest(paths: &[Path], path: &Path) -> bool {
     paths.iter().all(|other| other.first != path.first || other.last >= path.last)
 }

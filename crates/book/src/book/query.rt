@@ -13,8 +13,8 @@ use platform::Platform;
 
 impl<P: Platform, S> Book<P, S> {
     // The largest delay along the route under a semantics, which is given by any number, since the query refuses those
-    // that no semantics has. The witness, a path that takes so long, fills the front of the buffer; the rest keeps its
-    // content, and so does all of it where the query is refused.
+    // that no semantics has. The witness, a path that takes so long, is written to the front of the buffer. What lies
+    // behind it stays as it was, and so does all of the buffer where the query is refused.
     pub fn query(&self, semantics: u8, buffer: &mut [u64]) -> Result<Answer, AnalysisFault>
         ensures refused { QueryRefusal (view_of P.Platform self.now) semantics (long buffer.old) (refused_by analysis_fault result) }
         ensures answered { MatchResult result (λ a. QueryAnswer (view_of P.Platform self.now) semantics a (take (long (ledger_of self.now).route) buffer.new)) (λ _. buffer.new ≡ buffer.old) }
