@@ -2,7 +2,8 @@
 -- Assumes nothing.
 use Rattle.std.proofs.Common.{◌≡◌, ℕ, ◌+◌, ◌-◌, ◌<◌, ◌≤◌, ltb, List, [], ◌∷◌, ◌++◌, map, length, get_or, take, IfSome, Some, None, Option, sym, refl, ap, ◌∙◌, subst, arith, below_more, MatchOption}
 use Rattle.std.proofs.lemmas.List.{ext_get_or, get_or_append_left, get_or_push, map-append, take_more}
-use Rattle.path.specs.Given.{stage_in, stages_of}
+use Rattle.stage.specs.LawfulRow.{stage_in}
+use Rattle.path.specs.Given.{stages_of}
 use Rattle.std.specs.Option.{option_map}
 use Rattle.std.proofs.lemmas.Bool.{cond_both, cond-true, lt-ltb}
 use Rattle.stage.specs.Stages.{Stage, Lawful, count_of, mark_of}

@@ -16,7 +16,7 @@ pub struct Task {
     pub record: LawfulRecord,
 }
 
-// One slot for each task that can be held.
+// One slot for each task that can be held, in place: no call allocates.
 #[derive(Clone, Copy)]
 pub struct Table {
     pub slots: [Option<Task>; MAX_TASKS],

@@ -15,7 +15,7 @@ enum Outcome {
     Answered(FigureSheet),
 }
 
-// A platform's stage, by its record.
+// A platform's stage, by its record. What makes it absent is asked here once more, for what is printed.
 fn show_record(rt: &impl Print, stage: usize, record: Record) -> io::Result<()> {
     if stage > MAX_NUMBER as usize {
         return println!(rt; "stage {stage}: absent, stages end at {MAX_NUMBER}");
@@ -87,7 +87,7 @@ fn play_line<P: Platform>(
 pub fn show_platform(rt: &impl Print, platform: &[Reading]) -> io::Result<()> {
     // counts the stages, which stand among other lines
     let mut stages: usize = 0;
-    for (i, reading) in platform.iter().enumerate() {
+    for (at, reading) in (1..).zip(platform) {
         match reading {
             Ok(Some(Line::Stage(record))) => {
                 show_record(rt, stages, *record)?;
@@ -101,7 +101,7 @@ pub fn show_platform(rt: &impl Print, platform: &[Reading]) -> io::Result<()> {
             }
             Ok(Some(Line::Thin { every, from })) => println!(rt; "thin {every} {from}")?,
             Ok(_) => {}
-            Err(unread) => show_unread(rt, i + 1, *unread)?,
+            Err(unread) => show_unread(rt, at, *unread)?,
         }
     }
     Ok(())

@@ -46,6 +46,7 @@ enum ReadError {
     Memory(AllocError),
 }
 
+// Written out: a derive would want texts, and nobody prints a `ReadError`.
 impl From<Unread> for ReadError {
     fn from(unread: Unread) -> ReadError {
         ReadError::Unread(unread)
@@ -58,7 +59,8 @@ impl<T: Drop> From<AllocFailed<T>> for ReadError {
     }
 }
 
-// What a line looks like that begins with this word.
+// What a line looks like that begins with this word. `read_line` lists the words once more: each reads words of its own,
+// and a table of closures would hold the same eight lines.
 fn expected(verb: &str) -> &'static str {
     match verb {
         "stage" => "stage PERIOD OFFSET RESPONSE RANK",
@@ -133,6 +135,7 @@ impl Words<'_> {
 fn read_line(heap: Global, text: &str) -> Result<Option<Line>, ReadError> {
     let text = text.split_once('#').map_or(text, |(before, _)| before);
     let mut rest = text.split_whitespace();
+    // no `?`: an empty line is no fault
     let Some(verb) = rest.next() else {
         return Ok(None);
     };

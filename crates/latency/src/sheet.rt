@@ -18,6 +18,7 @@ struct StageSheet<'a, P> {
 // A book lends no list of its stages or marks: it is asked by position and number.
 impl<P: Platform> fmt::Display for StageSheet<'_, P> {
     fn fmt<W: fmt::Write>(&self, f: &mut fmt::Formatter<W>) -> fmt::Result {
+        // no `?`: an absent stage prints nothing, and that is no fault
         let Some((cycle, count, rank)) = self.book.describe(self.position) else {
             return Ok(());
         };

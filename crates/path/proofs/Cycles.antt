@@ -7,7 +7,8 @@ use Rattle.std.proofs.lemmas.List.{length-map, get_or-map, take_all, take_more}
 use Rattle.stage.specs.Stages.{Stage}
 use Rattle.stage.specs.Periods.{Divides, CommonMultiple, IsMacroPeriod}
 use Rattle.stage.specs.declared.lawful.LawfulRow.{LawfulRow}
-use Rattle.path.specs.Given.{stage_in, stages_of}
+use Rattle.stage.specs.LawfulRow.{stage_in}
+use Rattle.path.specs.Given.{stages_of}
 use Rattle.path.specs.Periods.{Whole, Common}
 use Rattle.path.specs.Refusals.{cycles_of, HasMacroPeriod, RightLength, Refused}
 use Rattle.path.specs.declared.delay.SearchFault.TheVariants.{MacroPeriod}

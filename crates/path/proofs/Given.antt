@@ -6,7 +6,8 @@ use Rattle.std.proofs.lemmas.List.{get_or-map, length-map}
 use Rattle.stage.specs.Stages.{Stage, Lawful}
 use Rattle.stage.specs.declared.lawful.LawfulRow.{LawfulRow}
 use Rattle.stage.proofs.Marks.{laws_of}
-use Rattle.path.specs.Given.{stage_in, stages_of}
+use Rattle.stage.specs.LawfulRow.{stage_in}
+use Rattle.path.specs.Given.{stages_of}
 use Rattle.path.specs.Timed.{last_or, last_stage}
 
 pub laws_in : (x : LawfulRow) → Lawful (stage_in x)

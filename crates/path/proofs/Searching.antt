@@ -13,7 +13,7 @@ use Rattle.path.specs.declared.largest.Longest.{Longest}
 use Rattle.path.specs.declared.route.Route.{Route}
 use Rattle.path.specs.declared.semantics.Semantics.{Semantics}
 use Rattle.path.specs.declared.semantics.Semantics.TheVariants.{LL, LF, FL, FF}
-use Rattle.path.specs.Given.{stage_in}
+use Rattle.stage.specs.LawfulRow.{stage_in}
 use Rattle.path.specs.Block.{IsLongest}
 use Rattle.path.specs.Route.{OpensBlock, first_along, last_along, stages_along, steps_along}
 use Rattle.path.specs.Timed.{first_stage, last_stage}

@@ -6,7 +6,7 @@ use Rattle.std.proofs.lemmas.Bool.{cases_lt, false≢true}
 use Rattle.stage.specs.Stages.{Stage, Lawful, start_of, stop_of}
 use Rattle.stage.specs.Instances.{FirstFrom}
 use Rattle.stage.proofs.Order.{in_order}
-use Rattle.path.specs.Given.{stage_in}
+use Rattle.stage.specs.LawfulRow.{stage_in}
 use Rattle.path.specs.declared.hop.Hop.{Hop}
 use Rattle.path.specs.Forward.{Waits}
 use Rattle.path.specs.Steps.{back_of}

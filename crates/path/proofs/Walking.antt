@@ -5,7 +5,8 @@ use Rattle.std.proofs.Common.{◌≡◌, ℕ, ◌+◌, ◌-◌, ◌*◌, ◌^◌
 use Rattle.std.proofs.lemmas.List.{length-take-le, get_or-take, get_or-drop, take_more, take_all, map_push}
 use Rattle.stage.specs.Stages.{Stage, start_of}
 use Rattle.stage.specs.declared.lawful.LawfulRow.{LawfulRow}
-use Rattle.path.specs.Given.{stage_in, stages_of}
+use Rattle.stage.specs.LawfulRow.{stage_in}
+use Rattle.path.specs.Given.{stages_of}
 use Rattle.path.specs.Timed.{last_or, first_stage, last_stage, first_of}
 use Rattle.path.specs.Steps.{Hop, ahead_of, back_of, hops_from, hop_along, route_of, trace_back, witness_to}
 use Rattle.path.proofs.Given.{all_laws, last_at, laws_in, stages_length}

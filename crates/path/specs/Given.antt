@@ -2,11 +2,8 @@
 -- Assumes nothing.
 use Rattle.std.specs.Prelude.{List, map}
 use Rattle.stage.specs.Stages.{Stage}
-use Rattle.stage.specs.Rows.{stage_of}
+use Rattle.stage.specs.LawfulRow.{stage_in}
 use Rattle.stage.specs.declared.lawful.LawfulRow.{LawfulRow}
-
-abbrev pub stage_in : LawfulRow → Stage
-stage_in l = stage_of l.row
 
 abbrev pub stages_of : List LawfulRow → List Stage
 stages_of rows = map stage_in rows

@@ -3,7 +3,7 @@
 ghost use Rattle.std.specs.Prelude.{◌≡◌, ◌+◌, ◌^◌, ◌<◌, ◌↔◌, IsTrue};
 ghost use Rattle.stage.specs.Stages.{start_of};
 ghost use Rattle.path.specs.Forward.{Waits};
-ghost use Rattle.path.specs.Given.{stage_in};
+ghost use Rattle.stage.specs.LawfulRow.{stage_in};
 ghost use Rattle.path.specs.Steps.{ahead_of, back_of};
 
 use stage::LawfulRow;

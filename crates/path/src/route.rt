@@ -4,7 +4,8 @@ ghost use Rattle.std.specs.Prelude.{◌≡◌, ℕ, ◌+◌, ◌^◌, ◌<◌, �
 ghost use Rattle.stage.specs.Periods.{IsMacroPeriod};
 ghost use Rattle.stage.specs.Stages.{start_of};
 ghost use Rattle.path.specs.declared.delay.TheConstants.{MAX_LENGTH};
-ghost use Rattle.path.specs.Given.{stage_in, stages_of};
+ghost use Rattle.stage.specs.LawfulRow.{stage_in};
+ghost use Rattle.path.specs.Given.{stages_of};
 ghost use Rattle.path.specs.Periods.{instances_in};
 ghost use Rattle.path.specs.Refusals.{Refused, cycles_of};
 ghost use Rattle.path.specs.Steps.{witness_to};
@@ -56,7 +57,8 @@ impl<'a> Route<'a> {
         u64::from(span / row.cycle) * u64::from(row.count)
     }
 
-    // The macro-period of the stages, where they have one.
+    // The macro-period of the stages, where they have one. A book's own notes the cycles too, but asks a platform, which may
+    // lack a stage; the call that they share is `stage`'s.
     pub(crate) fn macro_period(&self) -> Result<u32, SearchFault>
         ensures { MatchResult result (λ span. IsMacroPeriod (cycles_of (stages_along self.now)) (Some span)) (λ fault. (room : ℕ) → Refused fault (stages_along self.now) room) }
     {

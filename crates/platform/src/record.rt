@@ -37,7 +37,8 @@ impl Record {
         (1..=self.period).contains(&self.response)
     }
 
-    // Whether the record is within all limits; the check that makes a `LawfulRecord` says besides which one it breaks.
+    // Whether the record is within all limits. This and the three tests above are public beside `LawfulRecord::try_from`,
+    // which asks the three and says which limit is broken.
     pub fn is_in_range(self) -> bool
         ensures { result ≡ in_range self }
     {

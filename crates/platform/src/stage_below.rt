@@ -20,8 +20,8 @@ pub struct StageBelow<'a, P: Platform> {
 impl<'a, P: Platform> StageBelow<'a, P> {
     ghost use Rattle.platform.specs.StageBelow.{stage_below};
 
-    // The stage of a number; nothing where it is absent. Here and in the layers absence is left by `let .. else`: what is
-    // absent below is absent above.
+    // The stage of a number; nothing where it is absent. Here and in the layers absence is left by `let .. else`, as
+    // `docs/DECISIONS.md` has it: what is absent below is absent above.
     pub fn find(platform: &'a P, number: Number) -> Option<StageBelow<'a, P>>
         ensures { MatchOption result (P.Platform.meaning platform.now number ≡ None) (λ s. stage_below P.Platform s ≡ P.Platform.meaning platform.now number) }
     {

@@ -42,7 +42,8 @@ impl<P> Thin<P> {
 }
 
 impl<P: Platform> Thin<P> {
-    // The stage below, where it is there and can be thinned.
+    // The stage below, where it is there and can be thinned. Layers leave by `let .. else` where a stage is absent below;
+    // `docs/DECISIONS.md` says so.
     #[tactic(auto, unfolding(crate::specs::Thins::thinned))]
     fn stage_below(&self, number: Number) -> Option<StageBelow<'_, P>>
         ensures { MatchOption result (thinned self.now.every self.now.from (P.Platform.meaning self.now.below number) ≡ None) (λ s. (stage_below P.Platform s ≡ P.Platform.meaning self.now.below number) × (thinnable self.now.every self.now.from s.cycle ≡ true)) }

@@ -1,5 +1,5 @@
-// The plain way to the largest delay: every instance of the last stage, each followed back to the first stage. It
-// shares no step with the search, which it is measured beside.
+// The plain way to the largest delay: every instance of the last stage, each followed back to the first stage. A step
+// back is the search's, which keeps its own private; plain is that every instance is looked at.
 use stage::LawfulRow;
 
 // The instance of the writer that the reader's instance at `time` reads from.

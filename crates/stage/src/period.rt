@@ -25,6 +25,7 @@ fn lcm(a: u32, b: u32) -> Option<u32>
         return None;
     }
     let product = (a / gcd(a, b)) as u64 * b as u64;
+    // no `then_some`: the cast fits only after the test
     if product <= MAX_MACRO_PERIOD as u64 {
         Some(product as u32)
     } else {

@@ -87,6 +87,7 @@ fn path_to(heap: Global, stages: &[Stage], j: u64) -> Result<Option<Vec<u64>>, A
     let mut at = j;
     numbers.push(at)?;
     for [writer, reader] in stages.array_windows::<2>().rev() {
+        // no `?`: no path is no fault
         let Some(i) = writer.reaching(reader, at) else {
             return Ok(None);
         };
@@ -173,7 +174,7 @@ pub fn figure(paths: &[Path], semantics: Semantics) -> Option<Found<'_>> {
     let mut best = None;
     for path in paths {
         if let Some(found) = counted(paths, path, semantics) {
-            // no `map_or`: a closure over a figure that lends its path gets no proof
+            // no `map_or`, `reduce` or `max_by_key`: a closure over a figure that lends its path gets no proof
             best = Some(match best {
                 Some(best) => larger(best, found),
                 None => found,

@@ -18,6 +18,7 @@ const UNTOUCHED: u64 = 77;
 fn agrees(rows: &[LawfulRow], semantics: Semantics, expected: &Found<'_>) -> bool {
     let mut witness = [UNTOUCHED; MAX_LENGTH];
     let answer = largest_delay(rows, semantics, &mut witness);
+    // no `?` in a function that answers yes or no
     let Some((path, rest)) = witness.split_at_checked(rows.len()) else {
         return false;
     };

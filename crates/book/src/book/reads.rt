@@ -77,8 +77,8 @@ impl<P: Platform, S> Book<P, S> {
         self.mark_of_entry(entry, a)
     }
 
-    // The least common multiple of the cycles along the route, where it is not above 100,000,000. It asks for cycles only:
-    // the rows that a query copies would ask for each mark.
+    // The least common multiple of the cycles along the route, where it is not above 100,000,000. It asks for cycles only,
+    // and a platform may lack one; the search takes them from rows that are there, which hold each mark too.
     pub fn macro_period(&self) -> Option<u32>
         ensures { RoutePeriod (view_of P.Platform self.now) result }
     {

@@ -1,5 +1,5 @@
 use Rattle.std.proofs.Common.{◌≡◌, ◌<◌, [], ◌∷◌, Some, None, length, length-append, get_or, is_some, option_map, sym, ap, ◌∙◌, below_more, arith, rules}
-use Rattle.path.specs.Given.{stage_in}
+use Rattle.stage.specs.LawfulRow.{stage_in}
 use Rattle.book.specs.Books.{view_of}
 use Rattle.book.specs.Ledgers.{absent_at, entry_stage}
 use Rattle.book.proofs.Routes.{absent_here, absent_nowhere}

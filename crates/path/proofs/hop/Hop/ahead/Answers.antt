@@ -1,6 +1,6 @@
 use Rattle.std.proofs.Common.{◌≡◌, ◌∙◌, refl, sym, subst, arith}
 use Rattle.stage.specs.Instances.{FirstFrom}
-use Rattle.path.specs.Given.{stage_in}
+use Rattle.stage.specs.LawfulRow.{stage_in}
 use Rattle.path.specs.Steps.{ready_of}
 use Rattle.path.proofs.Given.{laws_in}
 use Rattle.path.proofs.Ready.{ready_start, ready_stop, ahead_first}

@@ -1,6 +1,6 @@
 use Rattle.std.proofs.Common.{◌≡◌, ◌∙◌, ◌-◌, Bor, IfSome, get_or, length, ap, sym, subst}
 use Rattle.stage.specs.declared.lawful.LawfulRow.{LawfulRow}
-use Rattle.path.specs.Given.{stage_in}
+use Rattle.stage.specs.LawfulRow.{stage_in}
 use Rattle.path.proofs.Given.{last_at}
 use Rattle.path.proofs.route.Route.last.Goals as goal
 
