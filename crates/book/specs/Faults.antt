@@ -44,6 +44,12 @@ analysis_fault NoRoute = at_0 11
 analysis_fault MacroPeriod = at_0 12
 analysis_fault Buffer = at_0 13
 
+-- a fault of the search by itself
+abbrev pub search_refusal : SearchFault → Refusal
+search_refusal no_length = at_0 8
+search_refusal no_period = at_0 12
+search_refusal no_room = at_0 13
+
 -- what a fault of the search is to the book
 abbrev pub search_fault : SearchFault → AnalysisFault
 search_fault no_length = NoRoute

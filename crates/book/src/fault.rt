@@ -4,7 +4,7 @@ ghost use Rattle.std.specs.Prelude.{◌≡◌};
 ghost use Rattle.book.specs.declared.fault.TaskFault.TheVariants.{Record as record_case};
 ghost use Rattle.book.specs.declared.fault.RouteFault.TheVariants.{Task as task_case};
 ghost use Rattle.book.specs.declared.fault.AnalysisFault.TheVariants.{Route as route_case, Semantics as semantics_case};
-ghost use Rattle.book.specs.Faults.{Refusal, analysis_fault, record_fault, route_fault, search_fault, task_fault};
+ghost use Rattle.book.specs.Faults.{Refusal, analysis_fault, at_0, record_fault, route_fault, search_fault, search_refusal, task_fault};
 
 use path::{SearchFault, UnknownSemantics};
 use platform::RecordFault;
@@ -35,6 +35,35 @@ impl Fault for RecordFault {
             RecordFault::Offset => 3,
             RecordFault::Response => 4,
         }
+    }
+
+    fn place(self) -> usize {
+        NO_PLACE
+    }
+}
+
+// A wrong number of rows is a wrong length, where a search is asked with no book.
+impl Fault for SearchFault {
+    ghost refusal = { search_refusal };
+
+    fn number(self) -> u8 {
+        match self {
+            SearchFault::Length => 8,
+            SearchFault::MacroPeriod => 12,
+            SearchFault::Buffer => 13,
+        }
+    }
+
+    fn place(self) -> usize {
+        NO_PLACE
+    }
+}
+
+impl Fault for UnknownSemantics {
+    ghost refusal = { λ _. at_0 10 };
+
+    fn number(self) -> u8 {
+        10
     }
 
     fn place(self) -> usize {
