@@ -48,13 +48,7 @@ impl<P: Platform> fmt::Display for RouteSheet<'_, P> {
         for position in 0..stages {
             if let Some(entry) = book.entry_at(position) {
                 let stage = StageSheet { book, position };
-                match Entry::from(entry) {
-                    task @ Entry::Task(_) => writeln!(f, "  {task}: {stage}")?,
-                    below @ Entry::Stage(_) => writeln!(
-                        f,
-                        "  {below} as the layers make it: {stage}"
-                    )?,
-                }
+                writeln!(f, "  {}: {stage}", Entry::from(entry))?;
             }
         }
         match book.macro_period() {
@@ -64,8 +58,8 @@ impl<P: Platform> fmt::Display for RouteSheet<'_, P> {
     }
 }
 
-// A figure: semantics, milliseconds cut to tenths, witness, predecessor and the exact microseconds. The witness is in
-// front of the buffer that the query filled.
+// A figure: semantics, milliseconds cut to tenths, witness and predecessor. The witness is in front of the buffer that
+// the query filled.
 #[derive(Clone, Copy)]
 pub struct FigureSheet {
     pub semantics: Semantics,
@@ -93,6 +87,6 @@ impl fmt::Display for FigureSheet {
         if let Some(predecessor) = predecessor {
             write!(f, " after {predecessor}")?;
         }
-        write!(f, " ({delay} us)")
+        Ok(())
     }
 }
