@@ -1,7 +1,8 @@
 -- Which refusal a query comes to, check by check.
 -- Assumes nothing.
-use Rattle.std.proofs.Common.{◌≡◌, ℕ, zero, suc, ◌<◌, ◌≤◌, List, [], ◌∷◌, length, Some, None, Option, sym, refl, ap, subst, inl, inr, arith, MatchOption}
+use Rattle.std.proofs.Common.{◌≡◌, ℕ, zero, suc, ◌<◌, ◌≤◌, List, [], ◌∷◌, length, Some, None, Option, sym, refl, ap, ◌∙◌, subst, inl, inr, arith, MatchOption}
 use Rattle.std.specs.Option.{option_map}
+use Rattle.stage.specs.Stages.{Stage}
 use Rattle.path.specs.Numbering.{semantics_number}
 use Rattle.path.specs.Refusals.{Accepted, Refused, HasMacroPeriod, RightLength}
 use Rattle.path.specs.declared.semantics.Semantics.{Semantics}
@@ -14,6 +15,11 @@ use Rattle.book.specs.Ledgers.{View, RefusedWhere, QueryRefusal, absent_at, entr
 pub none_absent : (o : Option ℕ) → None ≡ option_map absent_at o → o ≡ None
 none_absent None e = refl
 none_absent (Some n) e = let z : ◌≡◌ {A = ℕ} 0 1 = cc in absurd (omega arith)
+
+-- what the check of a list that is the route leaves
+pub all_there : (stage : ℕ → Option Stage) (xs entries : List ℕ) → xs ≡ entries
+    → None ≡ option_map absent_at (first_absent stage xs) → first_absent stage entries ≡ None
+all_there stage xs entries same e = ap (first_absent stage) (sym same) ∙ none_absent _ e
 
 -- a number that no semantics has is above 3
 pub above_three : (n : ℕ) → ((m : Semantics) → semantics_number m ≡ n → ⊥) → 3 < n

@@ -1,11 +1,11 @@
 -- The row that is copied from a stage's answers means that stage.
 -- Assumes nothing.
-use Rattle.std.proofs.Common.{◌≡◌, ℕ, ◌+◌, ◌-◌, ◌<◌, ◌≤◌, ltb, List, [], ◌∷◌, ◌++◌, map, length, get_or, take, IfSome, Some, None, Option, sym, refl, ap, ◌∙◌, subst, arith, below_more, MatchOption}
+use Rattle.std.proofs.Common.{◌≡◌, ℕ, ◌+◌, ◌-◌, ◌<◌, ◌≤◌, ltb, true, List, [], ◌∷◌, ◌++◌, map, length, get_or, take, is_some, IsSome, IfSome, Some, None, Option, sym, refl, ap, ◌∙◌, subst, arith, below_more, MatchOption}
 use Rattle.std.proofs.lemmas.List.{ext_get_or, get_or_append_left, get_or_push, map-append, take_more}
 use Rattle.stage.specs.LawfulRow.{stage_in}
 use Rattle.path.specs.Given.{stages_of}
 use Rattle.std.specs.Option.{option_map}
-use Rattle.std.proofs.lemmas.Bool.{cond_both, cond-true, lt-ltb}
+use Rattle.std.proofs.lemmas.Bool.{both_ways, cond_both, cond-true, lt-ltb}
 use Rattle.stage.specs.Stages.{Stage, Lawful, count_of, mark_of}
 use Rattle.stage.specs.Rows.{stage_of}
 use Rattle.stage.specs.declared.row.Row.{Row}
@@ -96,6 +96,12 @@ pub row_accepted : (o : Option Stage) (row : Row) (s : Stage) (r : Option Lawful
 row_accepted o row s None lawful there same refused =
     absurd (refused (subst Lawful (sym same) (subst (λ x. IfSome x Lawful) there lawful)))
 row_accepted o row s (Some l) lawful there same kept = there ∙ ap Some (sym same ∙ ap stage_of (sym kept))
+
+-- of a stage that is there, there is a row
+pub row_there : (o : Option Stage) (r : Option LawfulRow) → is_some o ≡ true
+    → MatchOption r (o ≡ None) (λ l. o ≡ Some (stage_in l)) → IsSome r
+row_there o None there none = absurd (both_ways (is_some o) (ap is_some none) there)
+row_there o (Some l) there here = refl
 
 -- one more stage along a list
 present-push : (stages : List (Option Stage)) (s : Stage) → present_stages (stages ++ Some s ∷ []) ≡ present_stages stages ++ s ∷ []

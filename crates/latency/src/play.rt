@@ -1,9 +1,10 @@
 // Plays a script's lines on a book, and prints what each did.
-use crate::script::{Line, Reading, Unread};
+use crate::script::{Layers, Line, PlatformPart, Unread, reading};
 use crate::sheet::{FigureSheet, RouteSheet};
 use book::{AnalysisFault, Book, Fault, Open};
 use path::{MAX_LENGTH, Semantics};
 use platform::{MAX_EVERY, MAX_NUMBER, Number, Platform, Record};
+use std::alloc::Global;
 use std::io;
 
 // What a call that is not refused did.
@@ -83,43 +84,65 @@ fn play_line<P: Platform>(
     }
 }
 
-// Prints the platform's stages and layers, as its lines give them.
-pub fn show_platform(rt: &impl Print, platform: &[Reading]) -> io::Result<()> {
-    // counts the stages, which stand among other lines
-    let mut stages: usize = 0;
-    for (at, reading) in (1..).zip(platform) {
-        match reading {
-            Ok(Some(Line::Stage(record))) => {
-                show_record(rt, stages, *record)?;
-                stages = stages.saturating_add(1);
-            }
-            Ok(Some(Line::Phase(shift))) => println!(rt; "phase {shift}")?,
-            // a thin's limits, here only for what is printed
-            Ok(Some(Line::Thin { every, from }))
-                if *every < 1 || *every > MAX_EVERY || *from >= *every => {
-                println!(rt; "thin {every} {from}: no stages")?
-            }
-            Ok(Some(Line::Thin { every, from })) => println!(rt; "thin {every} {from}")?,
-            Ok(_) => {}
-            Err(unread) => show_unread(rt, at, *unread)?,
-        }
+// A layer that keeps some instances. A thin's limits are asked here only for what is printed.
+fn show_thin(rt: &impl Print, every: u32, from: u32) -> io::Result<()> {
+    if every < 1 || every > MAX_EVERY || from >= every {
+        return println!(rt; "thin {every} {from}: no stages");
     }
-    Ok(())
+    println!(rt; "thin {every} {from}")
 }
 
-// Plays the lines in order, of which the first is line `first` of the script; a refused or unread line changes
-// nothing, and the rest goes on.
+// Reads the lines before the first call, which are about the platform, and prints each. No line is kept: a script is
+// as long as its text.
+pub fn read_platform(
+    rt: &impl Print,
+    heap: Global,
+    script: &str,
+) -> anyhow::Result<PlatformPart> {
+    let mut records = Vec::new(heap);
+    let mut layers = Layers::default();
+    let mut lines: usize = 0;
+    for (at, text) in (1..).zip(script.lines()) {
+        match reading(heap, text)? {
+            Ok(Some(Line::Stage(record))) => {
+                show_record(rt, records.len(), record)?;
+                records.push(record)?;
+            }
+            Ok(Some(Line::Phase(shift))) => {
+                println!(rt; "phase {shift}")?;
+                layers.shift = shift;
+            }
+            Ok(Some(Line::Thin { every, from })) => {
+                show_thin(rt, every, from)?;
+                layers.every = every;
+                layers.from = from;
+            }
+            Ok(Some(_)) => break,
+            Ok(None) => {}
+            Err(unread) => show_unread(rt, at, unread)?,
+        }
+        lines = at;
+    }
+    Ok(PlatformPart {
+        records,
+        layers,
+        lines,
+    })
+}
+
+// Plays the lines after the first so many, in order; a refused or unread line changes nothing, and the rest goes on.
 pub fn play<P: Platform>(
     rt: &impl Print,
+    heap: Global,
     book: &mut Book<P, Open>,
-    first: usize,
-    calls: &[Reading],
-) -> io::Result<()> {
-    for (at, reading) in (first..).zip(calls) {
-        match reading {
-            Ok(Some(line)) => play_line(rt, book, at, line)?,
+    passed: usize,
+    script: &str,
+) -> anyhow::Result<()> {
+    for (at, text) in (1..).zip(script.lines()).skip(passed) {
+        match reading(heap, text)? {
+            Ok(Some(line)) => play_line(rt, book, at, &line)?,
             Ok(None) => {}
-            Err(unread) => show_unread(rt, at, *unread)?,
+            Err(unread) => show_unread(rt, at, unread)?,
         }
     }
     Ok(())

@@ -21,16 +21,6 @@ pub enum Line {
     Query(u8),
 }
 
-impl Line {
-    // Whether the line is a call on the book; otherwise it is about the platform.
-    pub fn is_call(&self) -> bool {
-        match self {
-            Line::Stage(_) | Line::Phase(_) | Line::Thin { .. } => false,
-            Line::Enter(_, _) | Line::Retire(_) | Line::Route(_) | Line::Query(_) => true,
-        }
-    }
-}
-
 // A line that cannot be read, by what was expected in its place.
 #[derive(Clone, Copy, Debug, Error)]
 #[error("not read, expected {0}")]
@@ -168,37 +158,13 @@ pub fn as_text(heap: Global, bytes: &[u8]) -> Result<String, AllocError> {
     Ok(text)
 }
 
-// The lines of a script, in order.
-pub fn read(heap: Global, text: &str) -> Result<Vec<Reading>, AllocError> {
-    let mut readings = Vec::new(heap);
-    for line in text.lines() {
-        // an unread line stays among the others; only a lack of memory ends the reading
-        readings.push(match read_line(heap, line) {
-            Ok(line) => Ok(line),
-            Err(ReadError::Unread(unread)) => Err(unread),
-            Err(ReadError::Memory(error)) => return Err(error),
-        })?;
+// What stands in a line. One that cannot be read is no reason to stop: only a lack of memory ends the reading.
+pub fn reading(heap: Global, text: &str) -> Result<Reading, AllocError> {
+    match read_line(heap, text) {
+        Ok(line) => Ok(Ok(line)),
+        Err(ReadError::Unread(unread)) => Ok(Err(unread)),
+        Err(ReadError::Memory(error)) => Err(error),
     }
-    Ok(readings)
-}
-
-// The lines before the first call, which are about the platform, and the others.
-pub fn parts(script: &[Reading]) -> (&[Reading], &[Reading]) {
-    let calls = script.iter().position(
-        |reading| matches!(reading, Ok(Some(line)) if line.is_call()),
-    );
-    script.split_at(calls.unwrap_or(script.len()))
-}
-
-// The records of the platform's stages.
-pub fn records_of(heap: Global, platform: &[Reading]) -> Result<Vec<Record>, AllocError> {
-    let mut records = Vec::new(heap);
-    for reading in platform {
-        if let Ok(Some(Line::Stage(record))) = reading {
-            records.push(*record)?;
-        }
-    }
-    Ok(records)
 }
 
 // The layers that stand on the platform's stages: the last line of each kind counts.
@@ -220,19 +186,10 @@ impl Default for Layers {
     }
 }
 
-pub fn layers_of(platform: &[Reading]) -> Layers {
-    platform
-        .iter()
-        .fold(Layers::default(), |layers, reading| match reading {
-            Ok(Some(Line::Phase(shift))) => Layers {
-                shift: *shift,
-                ..layers
-            },
-            Ok(Some(Line::Thin { every, from })) => Layers {
-                every: *every,
-                from: *from,
-                ..layers
-            },
-            _ => layers,
-        })
+// What the lines before the first call say of the platform, and how many lines these are.
+#[derive(Drop)]
+pub struct PlatformPart {
+    pub records: Vec<Record>,
+    pub layers: Layers,
+    pub lines: usize,
 }

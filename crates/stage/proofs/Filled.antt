@@ -1,25 +1,37 @@
--- What `array::from_fn` makes, where a call answers a function of its index.
+-- A row's starts or stops, while marks are written one after the other.
 -- Assumes nothing.
-use Rattle.std.proofs.Common.{◌≡◌, ℕ, zero, suc, ◌+◌, ◌<◌, ◌≤◌, List, map, get_or, ⊎_elim, subst, ◌∙◌, arith}
-use Rattle.std.specs.Array.{IsFromFnResult, IsFromFnResultFrom}
+use Rattle.std.proofs.Common.{◌≡◌, ℕ, ◌+◌, ◌<◌, ◌≤◌, List, map, length, get_or, set, replicate, ⊎_elim, sym, refl, subst, ◌∙◌, below_more, get_or-set_other, get_or-set_same, arith}
 use Rattle.std.specs.List.{range_with_len}
 use Rattle.std.proofs.lemmas.Bool.{cases_lt}
+use Rattle.std.proofs.lemmas.List.{get_or_past, get_or-replicate, length-set}
 use Rattle.std.proofs.lemmas.List.FromFn.{fill_by_all}
-use denote.Param.Members.{Mut, Called}
 
-module _ {F B : Type 0} (g : Mut F (ℕ × Unit {0}) B) (v : ℕ → B) (f : F)
-    (call : (i : ℕ) (y : B) (q : F) → Called g f (i, tt) y q → (y ≡ v i) × (q ≡ f)) where
-  element_is : (ys : List B) (i n : ℕ) → IsFromFnResultFrom g f ys i n → (k : ℕ) (e : B) → i ≤ k → k < i + n → get_or ys k e ≡ v k
-  element_is ys i zero h k e low high = absurd (omega arith)
-  element_is ys i (suc n) h k e low high =
-      let made = call i h.1 h.0 h.3 in
-      ⊎_elim
-      (λ here.
-      let same : i ≡ k = omega arith in
-      subst (λ j. get_or ys j e ≡ v j) same (h.2.1 e ∙ made.0))
-      (λ later.
-      element_is ys (i + 1) n (subst (λ p. IsFromFnResultFrom g p ys (i + 1) n) made.1 h.4) k e (omega arith) (omega arith))
-      (cases_lt k (i + 1))
+-- the first n of 48 places hold a function's values, and the others 0
+pub record Filled (v : ℕ → ℕ) (n : ℕ) (xs : List ℕ) : Type 0 where
+  pub long : length xs ≡ 48
+  pub front : (k : ℕ) → k < n → get_or xs k 0 ≡ v k
+  pub rest : (k : ℕ) → n ≤ k → get_or xs k 0 ≡ 0
 
-  pub from_fn_is : (ys : List B) (n : ℕ) (d : B) → IsFromFnResult g f ys n → ys ≡ map v (range_with_len 0 n)
-  from_fn_is ys n d h = fill_by_all v ys n d h.long (λ k inside. element_is ys 0 n h.each k d (omega arith) (omega arith))
+pub filled_none : (v : ℕ → ℕ) (xs : List ℕ) → xs ≡ replicate 48 0 → Filled v 0 xs
+filled_none v xs e =
+    subst (Filled v 0) (sym e)
+    (record {
+      long = refl;
+      front = λ k h. absurd (omega arith);
+      rest = λ k h. ⊎_elim (get_or-replicate 48 k 0 0) (get_or_past (replicate 48 0) k 0) (cases_lt k 48);
+    })
+
+pub filled_more : (v : ℕ → ℕ) (n x : ℕ) (xs : List ℕ) → Filled v n xs → n < 48 → x ≡ v n → Filled v (n + 1) (set xs n x)
+filled_more v n x xs f h e =
+    record {
+      long = length-set xs n x ∙ f.long;
+      front =
+          below_more _ n (λ k l. get_or-set_other xs n k x 0 (omega arith) ∙ f.front k l)
+          (get_or-set_same xs n x 0 (omega (arith, f.long)) ∙ e);
+      rest = λ k l. get_or-set_other xs n k x 0 (omega arith) ∙ f.rest k (omega arith);
+    }
+
+pub filled_all : (v : ℕ → ℕ) (n : ℕ) (xs : List ℕ) → Filled v n xs → ((k : ℕ) → n ≤ k → v k ≡ 0)
+    → xs ≡ map v (range_with_len 0 48)
+filled_all v n xs f none =
+    fill_by_all v xs 48 0 f.long (λ k h. ⊎_elim (f.front k) (λ l. f.rest k l ∙ sym (none k l)) (cases_lt k n))

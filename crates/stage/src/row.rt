@@ -2,8 +2,6 @@
 ghost use Rattle.std.specs.Prelude.{◌≡◌, ◌≤◌, ◌↔◌, length, IfSome, IsSome, IsTrue};
 ghost use Rattle.stage.specs.Stages.{Lawful, LawfulMark};
 
-use std::array;
-
 // The most marks a stage has.
 pub const MAX_MARKS: usize = 48;
 
@@ -41,12 +39,19 @@ impl Row {
         if marks.len() > MAX_MARKS {
             return None;
         }
+        let mut starts = [0; MAX_MARKS];
+        let mut stops = [0; MAX_MARKS];
+        // only the places of marks are written: `array::from_fn` would ask for each of the 48
+        for (a, (start, stop)) in marks.iter().enumerate() {
+            starts[a] = *start;
+            stops[a] = *stop;
+        }
         Some(Row {
             cycle,
             count: marks.len() as u8,
             rank,
-            starts: array::from_fn(|a| marks.get(a).map_or(0, |mark| mark.0)),
-            stops: array::from_fn(|a| marks.get(a).map_or(0, |mark| mark.1)),
+            starts,
+            stops,
         })
     }
 

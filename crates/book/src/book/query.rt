@@ -20,8 +20,13 @@ impl<P: Platform, S> Book<P, S> {
         ensures answered { MatchResult result (λ a. QueryAnswer (view_of P.Platform self.now) semantics a (take (long (ledger_of self.now).route) buffer.new)) (λ _. buffer.new ≡ buffer.old) }
         ensures rest { drop (long (ledger_of self.now).route) buffer.new ≡ drop (long (ledger_of self.now).route) buffer.old }
     {
-        let rows = self.route_rows()?;
+        // no row is read where an entry or the number refuses the query, or where there is no route
+        self.check_entries(self.route.as_slice())?;
         let kind = Semantics::try_from(semantics)?;
+        if self.route.is_empty() {
+            return Err(AnalysisFault::NoRoute);
+        }
+        let rows = self.route_rows();
         let Delay { delay, predecessor } = largest_delay(rows.as_slice(), kind, buffer)?;
         Ok(Answer {
             delay,

@@ -1,14 +1,11 @@
 // The rows of the stages along a book's route.
-ghost use Rattle.std.specs.Prelude.{◌≡◌, ◌<◌, [], length, take, Some, None, MatchOption, IfOk};
+ghost use Rattle.std.specs.Prelude.{◌≡◌, ◌<◌, [], length, take, Some, None, MatchOption};
 ghost use Rattle.stage.specs.Rows.{stage_of};
 ghost use Rattle.path.specs.Given.{stages_of};
-ghost use Rattle.std.specs.Option.{option_map};
 ghost use Rattle.book.specs.Books.{ledger_of, view_of};
-ghost use Rattle.book.specs.Faults.{refused_by, route_fault};
-ghost use Rattle.book.specs.Ledgers.{absent_at, entry_stage, first_absent, stages_along};
+ghost use Rattle.book.specs.Ledgers.{entry_stage, first_absent, stages_along};
 
 use crate::book::Book;
-use crate::fault::RouteFault;
 use arrayvec::ArrayVec;
 use path::MAX_LENGTH;
 use platform::{Number, Platform};
@@ -28,16 +25,17 @@ impl<P: Platform, S> Book<P, S> {
         LawfulRow::new(Row::of_marks(cycle, rank, marks.as_slice())?)
     }
 
-    // The rows of the stages along the route.
-    pub(crate) fn route_rows(&self) -> Result<ArrayVec<LawfulRow, MAX_LENGTH>, RouteFault>
-        ensures refused { refused_by route_fault result ≡ option_map absent_at (first_absent (entry_stage (view_of P.Platform self.now)) (ledger_of self.now).route) }
-        ensures rows { IfOk result (λ rows. stages_of rows.items ≡ stages_along (view_of P.Platform self.now)) }
-        ensures long { IfOk result (λ rows. length rows.items ≡ length (ledger_of self.now).route) }
+    // The rows of the stages along the route, where none of its entries is absent. They are not handed out in a `Result`,
+    // which would copy all of their room.
+    pub(crate) fn route_rows(&self) -> ArrayVec<LawfulRow, MAX_LENGTH>
+        requires { first_absent (entry_stage (view_of P.Platform self.now)) (ledger_of self.now).route ≡ None }
+        ensures rows { stages_of result.items ≡ stages_along (view_of P.Platform self.now) }
+        ensures long { length result.items ≡ length (ledger_of self.now).route }
     {
         let mut rows = ArrayVec::new();
-        for (position, entry) in self.route.iter().enumerate() {
-            rows.push(self.entry_row(*entry).ok_or(RouteFault::Absent(position))?);
+        for entry in self.route.as_slice() {
+            rows.push(self.entry_row(*entry).unwrap());
         }
-        Ok(rows)
+        rows
     }
 }

@@ -1,39 +1,36 @@
-use Rattle.std.proofs.Common.{◌≡◌, ◌<◌, [], ◌∷◌, Some, None, length, length-append, get_or, is_some, option_map, sym, ap, ◌∙◌, below_more, arith, rules}
+use Rattle.std.proofs.Common.{◌≡◌, ◌<◌, [], ◌∷◌, Some, length, length-append, map, get_or, is_some, sym, ap, ◌∙◌, arith}
+use Rattle.std.proofs.lemmas.List.{take_all}
 use Rattle.stage.specs.LawfulRow.{stage_in}
 use Rattle.book.specs.Books.{view_of}
-use Rattle.book.specs.Ledgers.{absent_at, entry_stage}
-use Rattle.book.proofs.Routes.{absent_here, absent_nowhere}
-use Rattle.book.proofs.Rows.{rows_more}
+use Rattle.book.specs.Ledgers.{entry_stage, present_stages}
+use Rattle.book.proofs.Routes.{present_all}
+use Rattle.book.proofs.Rows.{row_there, rows_more}
 use Rattle.book.proofs.book.Book.route_rows.Goals as goal
 
-pub returns-in_err-ok_or-clause-refused : goal.returns-in_err-ok_or-clause-refused
-returns-in_err-ok_or-clause-refused g c =
-    let stage = entry_stage (view_of g.P.Platform c.args.self.now) in
-    let i = c.loop-position.position in
-    let same = c.deref-entry-items.ensures.0 in
-    let none : c.entry_row.result ≡ None = search rules in
-    let absent : stage (get_or c.deref-entry-items.result.now i 0) ≡ None = rw none at c.entry_row.ensures in
-    let here = absent_here stage c.args.self.now.route.items i (omega (arith, ap length same)) c.loop-position.invariant.2
-    (ap is_some (ap (λ xs. stage (get_or xs i 0)) (sym same) ∙ absent)) in
-    search rules
-
-pub loop-position-preserved : goal.loop-position-preserved
-loop-position-preserved g c =
+pub unwrap-requires : goal.unwrap-requires
+unwrap-requires g c =
     let stage = entry_stage (view_of g.P.Platform c.args.self.now) in
     let entries = c.args.self.now.route.items in
-    let i = c.loop-position.position in
-    let same = c.deref-entry-items.ensures.0 in
+    let i = c.loop-entry.entry-index in
+    let same = c.as_slice-entry-items.ensures.value in
     let inside : i < length entries = omega (arith, ap length same) in
-    let there : c.entry_row.result ≡ Some c.in_ok-ok_or.field-0 = search rules in
-    let here : stage (get_or c.deref-entry-items.result.now i 0) ≡ Some (stage_in c.in_ok-ok_or.field-0) = rw there at c.entry_row.ensures in
-    let here' = ap (λ xs. stage (get_or xs i 0)) (sym same) ∙ here in
+    row_there _ _ (ap (λ xs. is_some (stage (get_or xs i 0))) same ∙ present_all stage entries c.requires i inside) c.entry_row.ensures
+
+pub loop-entry-preserved : goal.loop-entry-preserved
+loop-entry-preserved g c =
+    let stage = entry_stage (view_of g.P.Platform c.args.self.now) in
+    let entries = c.args.self.now.route.items in
+    let i = c.loop-entry.entry-index in
+    let same = c.as_slice-entry-items.ensures.value in
+    let inside : i < length entries = omega (arith, ap length same) in
+    let here : stage (get_or c.as_slice-entry-items.result.now i 0) ≡ Some (stage_in c.unwrap.result) = rw c.unwrap.ensures at c.entry_row.ensures in
     rw c.push.ensures.items (
-      omega (arith, length-append c.loop-position.rows.items (c.in_ok-ok_or.field-0 ∷ [])),
-      rows_more stage entries c.loop-position.rows.items i c.in_ok-ok_or.field-0 inside c.loop-position.invariant.1 here',
-      below_more _ _ c.loop-position.invariant.2 (ap is_some here'),
+      omega (arith, length-append c.loop-entry.rows.items (c.unwrap.result ∷ [])),
+      rows_more stage entries c.loop-entry.rows.items i c.unwrap.result inside c.loop-entry.invariant.1 (ap (λ xs. stage (get_or xs i 0)) (sym same) ∙ here),
     )
 
-pub returns-clause-refused : goal.returns-clause-refused
-returns-clause-refused g c =
+pub returns-clause-rows : goal.returns-clause-rows
+returns-clause-rows g c =
     let stage = entry_stage (view_of g.P.Platform c.args.self.now) in
-    sym (ap (option_map absent_at) (absent_nowhere stage c.args.self.now.route.items (λ k h. c.loop-position.invariant.2 k (omega (arith, ap length c.deref-entry-items.ensures.0)))))
+    c.loop-entry.invariant.1
+    ∙ ap (λ xs. present_stages (map stage xs)) (take_all c.loop-entry.entry-index c.args.self.now.route.items (omega (arith, ap length c.as_slice-entry-items.ensures.value)))
