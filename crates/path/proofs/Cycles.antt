@@ -46,6 +46,9 @@ common_span ss span c =
           (c.divided i (omega (arith, length-map ss (λ (s : Stage). s.cycle))))));
     }
 
+pub has_macro_period : (ss : List Stage) (span : ℕ) → IsMacroPeriod (cycles_of ss) (Some span) → HasMacroPeriod ss
+has_macro_period ss span h = (span, h.0.common, h.1)
+
 pub no_macro_period : (ss : List Stage) → IsMacroPeriod (cycles_of ss) None → ¬ HasMacroPeriod ss
 no_macro_period ss none (span, c, low) = omega (arith, none span c)
 

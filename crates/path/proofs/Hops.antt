@@ -41,6 +41,9 @@ module _ (h : Hop) (t : Tied h) where
       let b = t.to_ahead i (h.ahead j + 1) (omega arith) in
       omega arith
 
+  pub back_rises : (c d : ℕ) → c ≤ d → h.back c ≤ h.back d
+  back_rises c d l = back_not (h.back d) c (omega (arith, ahead_not (h.back d) d (omega arith)))
+
   pub back_none : h.back 0 ≡ 0
   back_none = omega (arith, back_not 0 0 (omega arith))
 

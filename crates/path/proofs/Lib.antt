@@ -9,7 +9,9 @@ pub mod Period
 pub mod Shift
 pub mod Figures
 pub mod Unique
+pub mod Witness
 pub mod Sizes
+pub mod Rows
 pub mod Search
 pub mod Next
 pub mod Found

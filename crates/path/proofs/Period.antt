@@ -6,8 +6,8 @@ use Rattle.std.proofs.lemmas.Bool.{cases_lt}
 use Rattle.path.specs.declared.semantics.Semantics.{Semantics}
 use Rattle.path.specs.declared.semantics.Semantics.TheVariants.{LL, LF, FL, FF}
 use Rattle.path.specs.Steps.{Hop, first_block, next_block}
-use Rattle.path.proofs.Hops.{Tied}
-use Rattle.path.proofs.Blocks.{Opens, Before, first_opens, next_opens, next_before, next_soonest}
+use Rattle.path.proofs.Hops.{Tied, back_not, ahead_not}
+use Rattle.path.proofs.Blocks.{Opens, Before, top_positive, first_opens, next_opens, next_before, next_soonest}
 use Rattle.path.proofs.Best.{Chosen, From, longest, Takes, Clock, BestSoFar, longest_takes, takes_time}
 
 -- n first instances later, and so m last instances later, everything happens by `period` later
@@ -17,6 +17,27 @@ pub record Repeats (h : Hop) (begin finish : ℕ → ℕ) (n m period : ℕ) : T
   pub ahead_moves : (i : ℕ) → h.ahead (i + n) ≡ h.ahead i + m
   pub begin_moves : (i : ℕ) → begin (i + n) ≡ begin i + period
   pub finish_moves : (j : ℕ) → finish (j + m) ≡ finish j + period
+
+-- the step back moves too, wherever there is one
+pub back_moves : (h : Hop) → Tied h → (n m : ℕ) → ((i : ℕ) → h.ahead (i + n) ≡ h.ahead i + m) → (c : ℕ) → 0 < h.back c → h.back (c + m) ≡ h.back c + n
+back_moves h t n m moves c l =
+    let i : ℕ = h.back c - 1 in
+    let a = t.to_ahead i c (omega arith) in
+    let b = ahead_not h t (h.back c) c (omega arith) in
+    let p = t.to_back (i + n) (c + m) (omega (arith, moves i)) in
+    let q = back_not h t (h.back c + n) (c + m) (omega (arith, moves (h.back c))) in
+    omega arith
+
+-- and so do the blocks
+pub next_moves : (h : Hop) → Tied h → (n m : ℕ) → ((i : ℕ) → h.ahead (i + n) ≡ h.ahead i + m) → (f : ℕ) → next_block h (f + n) ≡ next_block h f + n
+next_moves h t n m moves f =
+    let e : h.ahead (f + n + 1) + 1 ≡ h.ahead (f + 1) + 1 + m =
+    omega (arith, ap h.ahead (sum_moved f n), moves (f + 1)) in
+    let p = top_positive h t (f + 1) in
+    omega (arith, ap h.back e, back_moves h t n m moves (h.ahead (f + 1) + 1) (omega arith))
+  where
+    sum_moved : (f n : ℕ) → f + n + 1 ≡ f + 1 + n
+    sum_moved f n = omega arith
 
 -- the best of all paths that count
 pub record BestOfAll (s : Semantics) (h : Hop) (begin finish : ℕ → ℕ) (d o l : ℕ) : Type 0 where

@@ -22,6 +22,7 @@ use Rattle.path.specs.Periods.{Common, instances_in}
 use Rattle.path.specs.Steps.{origin_in, end_in, route_of, witness_to, first_block, next_block}
 use Rattle.path.proofs.Best.{longest}
 use Rattle.path.proofs.Blocks.{top, top_same, top_opens}
+use Rattle.path.proofs.Counting.{rising_le}
 use Rattle.path.proofs.Given.{all_laws, stages_length}
 use Rattle.path.proofs.Ready.{stops_rise}
 use Rattle.path.proofs.Search.{tied, Counting, from_of, delay_in, Visit, visit_start, visit_more, visit_same, visit_skip, visit_in_time, visit_in_spans, visit_finish, visit_written, visit_positive, back_there, next_after, instances_in_is, number_small}
@@ -155,6 +156,15 @@ stop_early m b =
     let s = last_stage (stages_along b.route) in
     let l = last_lawful (stages_along b.route) (some b.route) (laws b.route) in
     omega (arith, stops_rise s l (end_in m b.near b.far) b.far (end_low m b.near b.far b.opens), stop_soon s l b.far, b.early)
+
+-- It has stopped when the far end starts, so it is as early.
+pub end_early : (m : Semantics) (b : Block) → stop_of (last_stage (stages_along b.route)) (end_in m b.near b.far) < 2 ^ 40
+end_early m b =
+    let s = last_stage (stages_along b.route) in
+    let order = in_order s (last_lawful (stages_along b.route) (some b.route) (laws b.route)) in
+    let last : ℕ = end_in m b.near b.far in
+    let low : last + 1 ≤ b.far = omega (arith, end_low m b.near b.far b.opens) in
+    omega (arith, order.stop_before_next last, rising_le (start_of s) order.starts_rise (last + 1) b.far low, b.early)
 
 if_some : (o : Option ℕ) (P : ℕ → Type 0) → ((x : ℕ) → o ≡ Some x → P x) → IfSome o P
 if_some None P h = tt
@@ -328,19 +338,19 @@ module _ (m : Semantics) (route : Route) (span end : ℕ) (block : Block) (best 
     visited =
         subst (λ o. Visit m (stages_along block.route) block.begin (unwrap_or block.before 0) (delay_of o) (origin_of o) (last_of o)) is v.visit
 
-    reached_figure : Figure m (stages_along route) l.delay (shown_predecessor m l.origin) (witness_to (stages_along route) l.last)
+    pub reached_figure : Figure m (stages_along route) l.delay (shown_predecessor m l.origin) (witness_to (stages_along route) l.last)
     reached_figure =
         subst (λ r. Figure m (stages_along r) l.delay (shown_predecessor m l.origin) (witness_to (stages_along r) l.last)) v.along
         (visit_finish m (stages_along block.route) (some block.route) (laws block.route) span v.common block.begin (unwrap_or block.before 0)
         l.delay l.origin l.last visited far)
 
-    reached_there : 0 < (route_of (stages_along route)).back (l.last + 1)
+    pub reached_there : 0 < (route_of (stages_along route)).back (l.last + 1)
     reached_there =
         subst (λ r. 0 < (route_of (stages_along r)).back (l.last + 1)) v.along
         (visit_written m (stages_along block.route) (some block.route) (laws block.route) span v.common block.begin (unwrap_or block.before 0)
         l.delay l.origin l.last visited far)
 
-    reached_early : start_of (last_stage (stages_along route)) l.last < 2 ^ 40
+    pub reached_early : start_of (last_stage (stages_along route)) l.last < 2 ^ 40
     reached_early =
         let lawful = last_lawful (stages_along block.route) (some block.route) (laws block.route) in
         let low : l.last < block.far = omega (arith, visited.last_low, block.near_is, block.opens) in

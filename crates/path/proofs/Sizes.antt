@@ -3,7 +3,7 @@
 use Rattle.std.proofs.Common.{◌≡◌, ℕ, ◌+◌, ◌-◌, ◌*◌, ◌<◌, ◌≤◌, List, [], ◌∷◌, length, ap, ⊎_elim, mul-le-mul_right, arith}
 use Rattle.std.specs.List.{AllByRecursion}
 use Rattle.std.proofs.lemmas.Bool.{cases_lt}
-use Rattle.stage.specs.Stages.{Stage, Lawful, start_of}
+use Rattle.stage.specs.Stages.{Stage, Lawful, start_of, stop_of}
 use Rattle.stage.proofs.Order.{in_order}
 use Rattle.path.specs.Timed.{last_or, first_stage}
 use Rattle.path.specs.Periods.{Whole, Common, instances_in}
@@ -80,6 +80,9 @@ module _ (s : Stage) (ss : List Stage) (l : Lawful s) (ls : AllByRecursion Lawfu
         start_within s l 1 0 (omega (arith, l.count_low)),
         cycle_in_span s l span c.whole.0 c.positive,
       )
+
+  stop_soon : (t : Stage) → Lawful t → (i : ℕ) → stop_of t i ≤ start_of t i + t.cycle
+  stop_soon t h i = omega (arith, (in_order t h).stop_before_next i, (in_order t h).next_within_cycle i)
 
   pub in_spans : (f : ℕ) → f ≤ first_block (route_of (s ∷ ss)) + instances_in span s → InSpans (s ∷ ss) span f
   in_spans f h =

@@ -10,11 +10,11 @@ use Rattle.platform.specs.Thins.{thin_stage, EveryThinning}
 use Rattle.platform.specs.LayerSoundness.{thin_count, thin_start, thin_stop, start_later, stop_later, mark_start, mark_stop, before_early, phase_count, phase_start, phase_stop, shift_low, staying_within, leaves, phase_lawful}
 
 -- an instance, by its cycle and its mark
-start_by : (t : Stage) (k i : ℕ) → count_of t ≡ k → start_of t i ≡ i / k * t.cycle + (mark_of t (i % k)).0
+pub start_by : (t : Stage) (k i : ℕ) → count_of t ≡ k → start_of t i ≡ i / k * t.cycle + (mark_of t (i % k)).0
 unfolding start_of
 start_by t k i e = subst (λ n. start_of t i ≡ i / n * t.cycle + (mark_of t (i % n)).0) e refl
 
-stop_by : (t : Stage) (k i : ℕ) → count_of t ≡ k → stop_of t i ≡ i / k * t.cycle + (mark_of t (i % k)).1
+pub stop_by : (t : Stage) (k i : ℕ) → count_of t ≡ k → stop_of t i ≡ i / k * t.cycle + (mark_of t (i % k)).1
 unfolding stop_of
 stop_by t k i e = subst (λ n. stop_of t i ≡ i / n * t.cycle + (mark_of t (i % n)).1) e refl
 

@@ -32,3 +32,10 @@ leaves_cycle d o cycle count p a first start stop e k =
       grind (arith, leaves d s l (first + a)),
       grind (arith, (in_order s l).start_before_stop (first + a)),
     )
+
+-- and it stops at most a cycle after its start
+pub stop_high : (o : Option Stage) (cycle count : ℕ) (p : Shaped o cycle count) (i start stop : ℕ) → Some (start, stop) ≡ instanced o i
+    → stop ≤ start + cycle
+stop_high o cycle count p i start stop e =
+    let order = in_order p.stage p.lawful in
+    grind (arith, order.stop_before_next i, order.next_within_cycle i)

@@ -34,6 +34,14 @@ module _ (s : Stage) (l : Lawful s) where
   none_before time h =
       record { within = omega arith; early = λ a z. omega arith; late = λ a z k. omega (arith, marks_rise 0 a (omega arith) k) }
 
+  pub split_latest : (before a : ℕ) → Latest s before a → StartBefore s (before + 1) (a + 1)
+  split_latest before a h =
+      record {
+        within = omega (arith, h.present);
+        early = λ b z. omega (arith, marks_rise b a (omega arith) h.present, h.started);
+        late = λ b z k. ⊎_elim (λ in_time. omega (arith, h.last b k (omega arith))) (λ not_yet. omega arith) (cases_lt (mark_of s b).0 (before + 1));
+      }
+
   -- the first instance of cycle q + 1, and the last of cycle q
   next_cycle : (q : ℕ) → start_of s ((q + 1) * count_of s) ≡ (q + 1) * s.cycle + (mark_of s 0).0
   next_cycle q = subst (λ i. start_of s i ≡ (q + 1) * s.cycle + (mark_of s 0).0) (omega arith) (start_at s (q + 1) 0 (omega arith))
