@@ -94,11 +94,7 @@ fn show_thin(rt: &impl Print, every: u32, from: u32) -> io::Result<()> {
 
 // Reads the lines before the first call, which are about the platform, and prints each. No line is kept: a script is
 // as long as its text.
-pub fn read_platform(
-    rt: &impl Print,
-    heap: Global,
-    script: &str,
-) -> anyhow::Result<PlatformPart> {
+pub fn read_platform(rt: &impl Print, heap: Global, script: &str) -> anyhow::Result<PlatformPart> {
     let mut records = Vec::new(heap);
     let mut layers = Layers::default();
     let mut lines: usize = 0;
