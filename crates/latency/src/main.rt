@@ -5,7 +5,7 @@ mod play;
 mod script;
 mod sheet;
 
-use crate::script::PlatformPart;
+use crate::play::Opening;
 use book::Book;
 use platform::{Metronome, Phase, Thin};
 use std::io::Read;
@@ -15,17 +15,21 @@ fn run(rt: &HostRuntime) -> anyhow::Result<()> {
     rt.stdin().read_to_end(&mut bytes)?;
     let text = script::as_text(rt.alloc(), bytes.as_slice())?;
     let script = text.as_str();
-    let PlatformPart {
+    let Opening {
         records,
         layers,
         lines,
-    } = play::read_platform(rt, rt.alloc(), script)?;
+        call,
+    } = play::read_opening(rt, rt.alloc(), script)?;
     let thin = Thin::new(
         Metronome::new(records.as_slice()),
         layers.every,
         layers.from,
     );
     let mut book = Book::new(Phase::new(thin, layers.shift));
+    if let Some(call) = call {
+        play::play_line(rt, &mut book, lines, &call)?;
+    }
     play::play(rt, rt.alloc(), &mut book, lines, script)?;
     Ok(())
 }

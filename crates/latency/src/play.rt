@@ -1,5 +1,5 @@
 // Plays a script's lines on a book, and prints what each did.
-use crate::script::{Layers, Line, PlatformPart, Unread, reading};
+use crate::script::{Layers, Line, Unread, reading};
 use crate::sheet::{FigureSheet, RouteSheet};
 use book::{AnalysisFault, Book, Fault, Open};
 use path::{MAX_LENGTH, Semantics};
@@ -64,7 +64,7 @@ fn call<P: Platform>(
     }
 }
 
-fn play_line<P: Platform>(
+pub fn play_line<P: Platform>(
     rt: &impl Print,
     book: &mut Book<P, Open>,
     at: usize,
@@ -92,41 +92,52 @@ fn show_thin(rt: &impl Print, every: u32, from: u32) -> io::Result<()> {
     println!(rt; "thin {every} {from}")
 }
 
-// Reads the lines before the first call, which are about the platform, and prints each. No line is kept: a script is
-// as long as its text.
-pub fn read_platform(rt: &impl Print, heap: Global, script: &str) -> anyhow::Result<PlatformPart> {
-    let mut records = Vec::new(heap);
-    let mut layers = Layers::default();
-    let mut lines: usize = 0;
+// What the lines up to the first call say: of the platform, how many lines these are, and the call.
+#[derive(Drop)]
+pub struct Opening {
+    pub records: Vec<Record>,
+    pub layers: Layers,
+    pub lines: usize,
+    pub call: Option<Line>,
+}
+
+// Reads the lines up to the first call, and prints those about the platform. None is kept, since a script may be long.
+pub fn read_opening(rt: &impl Print, heap: Global, script: &str) -> anyhow::Result<Opening> {
+    let mut opening = Opening {
+        records: Vec::new(heap),
+        layers: Layers::default(),
+        lines: 0,
+        call: None,
+    };
     for (at, text) in (1..).zip(script.lines()) {
+        opening.lines = at;
         match reading(heap, text)? {
             Ok(Some(Line::Stage(record))) => {
-                show_record(rt, records.len(), record)?;
-                records.push(record)?;
+                show_record(rt, opening.records.len(), record)?;
+                opening.records.push(record)?;
             }
             Ok(Some(Line::Phase(shift))) => {
                 println!(rt; "phase {shift}")?;
-                layers.shift = shift;
+                opening.layers.shift = shift;
             }
             Ok(Some(Line::Thin { every, from })) => {
                 show_thin(rt, every, from)?;
-                layers.every = every;
-                layers.from = from;
+                opening.layers.every = every;
+                opening.layers.from = from;
             }
-            Ok(Some(_)) => break,
+            Ok(Some(call)) => {
+                opening.call = Some(call);
+                break;
+            }
             Ok(None) => {}
             Err(unread) => show_unread(rt, at, unread)?,
         }
-        lines = at;
     }
-    Ok(PlatformPart {
-        records,
-        layers,
-        lines,
-    })
+    Ok(opening)
 }
 
-// Plays the lines after the first so many, in order; a refused or unread line changes nothing, and the rest goes on.
+// Plays the lines that come after the first `passed`, in order; a refused or unread line changes nothing, and the rest
+// goes on.
 pub fn play<P: Platform>(
     rt: &impl Print,
     heap: Global,

@@ -185,11 +185,3 @@ impl Default for Layers {
         }
     }
 }
-
-// What the lines before the first call say of the platform, and how many lines these are.
-#[derive(Drop)]
-pub struct PlatformPart {
-    pub records: Vec<Record>,
-    pub layers: Layers,
-    pub lines: usize,
-}
